@@ -1,7 +1,7 @@
 -- How many of a link's variables have to be mapped until the parts of its chain are.
 use Rattle.std.specs.Prelude.{ℕ, List, [], map}
 use Rattle.query_spec.specs.declared.Variable.{Variable}
-use Rattle.query_spec.specs.Query.{Operand, Condition, Target, plain, made, Link}
+use Rattle.query_spec.specs.Query.{Operand, Condition, Target, plain, made, summed, Link}
 use Rattle.query_spec.specs.Mentions.{operand_names, names}
 use Rattle.constraint_recheck.specs.Search.{depth}
 
@@ -13,6 +13,7 @@ operand_depths variables = map (λ o. depth variables (operand_names o))
 abbrev pub end_depths : List Variable → Target → List ℕ
 end_depths variables (plain o) = []
 end_depths variables (made t) = operand_depths variables t.args
+end_depths variables (summed a) = []
 
 -- for each of the conditions
 abbrev pub condition_depths : List Variable → List Condition → List ℕ

@@ -130,7 +130,7 @@ fn of_end(alloc: Global, variables: &[Variable], end: &Target) -> Result<Vec<usi
     ensures { IfOk result (λ d. d.items ≡ end_depths variables.now (target_of end.now)) }
 {
     match end {
-        Target::Plain(_) => Ok(Vec::new(alloc)),
+        Target::Plain(_) | Target::Summed(_, _) => Ok(Vec::new(alloc)),
         Target::Made(term) => of_operands(alloc, variables, &term.args),
     }
 }

@@ -130,7 +130,7 @@ fn fits_end(
     ensures { result ≡ due_same variables.now (target_of end.now) (term_of term.now) names.now }
 {
     match end {
-        Target::Plain(_) => false,
+        Target::Plain(_) | Target::Summed(_, _) => false,
         Target::Made(made) => {
             made.function == term.function
                 && fit_args(variables, names, &made.args, depths, &term.args)

@@ -60,7 +60,7 @@ fn push_target<'a>(
         ++ terms_named function.now path.now (target_terms (target_of target.now))) }
 {
     match target {
-        Target::Plain(_) => Ok(()),
+        Target::Plain(_) | Target::Summed(_, _) => Ok(()),
         Target::Made(term) => push_term(function, path, term, found),
     }
 }

@@ -8,7 +8,7 @@ use Rattle.sd_value.specs.declared.Value.TheVariants.{Data}
 use Rattle.graph_spec.specs.DataGraph.{Name, text}
 use Rattle.query_spec.specs.declared.Op.TheVariants.{Ne}
 use Rattle.query_spec.specs.declared.Variable.{Variable}
-use Rattle.query_spec.specs.Query.{variable, constant, Condition, compare, one_of, SkolemTerm, Target, plain, made}
+use Rattle.query_spec.specs.Query.{variable, constant, Condition, compare, one_of, SkolemTerm, Target, plain, made, summed}
 use Rattle.query_spec.specs.Query.{LinkLabel, quoted, label_variable}
 use Rattle.query_spec.specs.Mentions.{same_name, variables_of}
 use Rattle.site_spec.specs.Site.{Scope}
@@ -51,6 +51,13 @@ link_at links (suc n) = slice_get links n
 abbrev pub on_made : (SkolemTerm → Bool) → Target → Bool
 on_made f (plain o) = false
 on_made f (made t) = f t
+on_made f (summed a) = false
+
+-- the target is no aggregate
+abbrev pub is_per_row : Target → Bool
+is_per_row (plain o) = true
+is_per_row (made t) = true
+is_per_row (summed a) = false
 
 -- the target is a term of the function
 abbrev pub is_of : Name → Target → Bool
@@ -113,10 +120,11 @@ single may good [] = false
 single may good (k ∷ ks) =
     if may k then good k && list_all (λ j. not (may j)) ks else single may good ks
 
--- the variables of the link's target are all among its source's
+-- the link ends at no aggregate, and the variables of its target are all among its source's
 abbrev pub determined : PlacedLink → Bool
 determined k =
-    list_all (λ x. list_any (same_name x) (target_names k.link.source))
+    is_per_row k.link.target
+    && list_all (λ x. list_any (same_name x) (target_names k.link.source))
     (target_names k.link.target)
 
 module _ (tests : Tests) (q : Scope) where

@@ -10,7 +10,7 @@ use Rattle.sd_value.specs.Names.{Name, Label}
 use Rattle.rpe.specs.Regex.{Regex}
 use Rattle.query_spec.specs.declared.Variable.{Variable}
 use Rattle.query_spec.specs.Query.{Operand, variable, constant, Condition, SkolemTerm, Target, Link}
-use Rattle.query_spec.specs.Query.{plain, made}
+use Rattle.query_spec.specs.Query.{plain, made, summed}
 use Rattle.query_spec.specs.Mentions.{same_name, operand_names, names, variables_of}
 use Rattle.site_spec.specs.Site.{Scope}
 use Rattle.constraint_spec.specs.declared.Constraint.{Constraint}
@@ -52,6 +52,7 @@ module _ (variables : List Variable) where
   abbrev pub due_same : Target → SkolemTerm → List Name → Bool
   due_same (plain o) t ys = false
   due_same (made s) t ys = same_name s.function t.function && zip_all (due_arg ys) s.args t.args
+  due_same (summed a) t ys = false
 
   -- the link's source is the term s, and its target the term t, if one is asked for
   abbrev pub ends_fit : Link → SkolemTerm → Option SkolemTerm → List Name → Bool
@@ -145,6 +146,7 @@ choices targets (o ∷ os) =
 -- the terms that the link's source may be mapped to
 abbrev pub source_choices : List Variable → Target → List SkolemTerm
 source_choices targets (plain o) = []
+source_choices targets (summed a) = []
 source_choices targets (made s) =
     map (λ bs. record { function = s.function; args = bs }) (choices targets s.args)
 

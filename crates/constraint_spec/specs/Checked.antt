@@ -4,7 +4,8 @@ use Rattle.std.specs.List.{flat_map}
 use Rattle.sd_value.specs.declared.Datum.{Datum}
 use Rattle.sd_value.specs.declared.Value.TheVariants.{Data}
 use Rattle.query_spec.specs.Query.{Operand, variable, constant, Condition, SkolemTerm, Target}
-use Rattle.query_spec.specs.Query.{plain, made, LinkLabel, quoted, label_variable, Link, Body}
+use Rattle.query_spec.specs.Query.{plain, made, summed, LinkLabel, quoted, label_variable}
+use Rattle.query_spec.specs.Query.{Link, Body}
 use Rattle.query_spec.specs.Mentions.{names, arc_names, IsFlat}
 use Rattle.site_spec.specs.Site.{Scope}
 
@@ -17,10 +18,11 @@ IsBound conditions (constant v) = (d : Datum) × (v ≡ Data d)
 abbrev pub IsBoundTerm : List Condition → SkolemTerm → Type 0
 IsBoundTerm conditions t = All (IsBound conditions) t.args
 
--- what the target mentions is bound
+-- what the target mentions is bound; nothing is asked of an aggregate
 abbrev pub IsBoundTarget : List Condition → Target → Type 0
 IsBoundTarget conditions (plain operand) = IsBound conditions operand
 IsBoundTarget conditions (made t) = IsBoundTerm conditions t
+IsBoundTarget conditions (summed a) = Unit {0}
 
 -- a variable for a label is between arrows in some condition
 abbrev pub IsBoundLabel : List Condition → LinkLabel → Type 0

@@ -6,7 +6,8 @@ use Rattle.sd_value.specs.Names.{Name}
 use Rattle.query_spec.specs.declared.Variable.{Variable}
 use Rattle.query_spec.specs.Query.{Operand, variable, constant, PathStep, arc_variable, expression}
 use Rattle.query_spec.specs.Query.{Condition, member, path, compare, one_of, kind, negation}
-use Rattle.query_spec.specs.Query.{SkolemTerm, Target, plain, made}
+use Rattle.query_spec.specs.Query.{Aggregate, count_of, min_of, max_of, sum_of}
+use Rattle.query_spec.specs.Query.{SkolemTerm, Target, plain, made, summed}
 use Rattle.query_spec.specs.Mentions.{same_name, variables_of}
 use Rattle.site_spec.specs.Site.{Scope}
 use Rattle.constraint_spec.specs.Placed.{PlacedLink, links_of, IsNumbered}
@@ -37,10 +38,18 @@ rename f (negation c) = negation (rename f c)
 abbrev pub rename_term : (Name → Name) → SkolemTerm → SkolemTerm
 rename_term f t = record { function = t.function; args = map (rename_operand f) t.args }
 
+-- the aggregate with its variables renamed
+abbrev pub rename_aggregate : (Name → Name) → Aggregate → Aggregate
+rename_aggregate f (count_of v) = count_of (f v)
+rename_aggregate f (min_of v) = min_of (f v)
+rename_aggregate f (max_of v) = max_of (f v)
+rename_aggregate f (sum_of v x) = sum_of (f v) (f x)
+
 -- the target with its variables renamed
 abbrev pub rename_target : (Name → Name) → Target → Target
 rename_target f (plain operand) = plain (rename_operand f operand)
 rename_target f (made t) = made (rename_term f t)
+rename_target f (summed a) = summed (rename_aggregate f a)
 
 -- the name that a variable is mapped to. A name that is none of the variables stays
 abbrev pub name_for : List Variable → List Name → Name → Name

@@ -4,7 +4,8 @@ use Rattle.std.specs.Bool.{Decides}
 use Rattle.std.specs.List.{flat_map}
 use Rattle.sd_value.specs.Names.{Name, Label}
 use Rattle.graph_spec.specs.DataGraph.{DataGraph}
-use Rattle.query_spec.specs.Query.{Operand, Target, plain, made, LinkLabel, quoted, label_variable}
+use Rattle.query_spec.specs.Query.{Operand, Target, plain, made, summed, LinkLabel, quoted}
+use Rattle.query_spec.specs.Query.{label_variable}
 use Rattle.site_spec.specs.Site.{Scope}
 use Rattle.constraint_spec.specs.declared.Constraint.{Constraint}
 use Rattle.constraint_spec.specs.declared.Constraint.TheVariants.{Reachable, Each, Only, Never, One}
@@ -38,6 +39,7 @@ set_by l (label_variable a) = Some (record { variable = a; label = l })
 abbrev pub arguments_of : Target → List Operand
 arguments_of (plain operand) = []
 arguments_of (made t) = t.args
+arguments_of (summed a) = []
 
 -- the link's chain, its label set
 abbrev pub link_pattern : Label → PlacedLink → Copy → Bool → Pattern

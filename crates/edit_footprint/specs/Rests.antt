@@ -2,7 +2,7 @@
 use Rattle.std.specs.Prelude.{Bool, true, false, ◌&&◌, ◌||◌, List}
 use Rattle.std.specs.List.{list_any}
 use Rattle.graph_spec.specs.DataGraph.{Name}
-use Rattle.query_spec.specs.Query.{SkolemTerm, Target, plain, made, LinkLabel, quoted, label_variable, Link, Collect, Body}
+use Rattle.query_spec.specs.Query.{SkolemTerm, Target, plain, made, summed, LinkLabel, quoted, label_variable, Link, Collect, Body}
 use Rattle.query_spec.specs.Mentions.{same_name}
 
 -- a term of the function
@@ -13,6 +13,7 @@ is_of function t = same_name t.function function
 abbrev pub is_made_of : Name → Target → Bool
 is_made_of function (plain operand) = false
 is_made_of function (made t) = same_name t.function function
+is_made_of function (summed a) = false
 
 -- an end of the link is one
 abbrev pub link_names : Name → Link → Bool

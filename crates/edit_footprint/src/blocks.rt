@@ -25,7 +25,7 @@ fn is_made_of(function: &Str, target: &Target) -> bool
     ensures { result ≡ tests.is_made_of function.now (target_of target.now) }
 {
     match target {
-        Target::Plain(_) => false,
+        Target::Plain(_) | Target::Summed(_, _) => false,
         Target::Made(term) => term.function == *function,
     }
 }

@@ -30,7 +30,7 @@ pub fn is_of(target: &Target, function: &Str) -> bool
     ensures { result ≡ ends_in function.now (target_of target.now) }
 {
     match target {
-        Target::Plain(_) => false,
+        Target::Plain(_) | Target::Summed(_, _) => false,
         Target::Made(term) => term.function == *function,
     }
 }

@@ -13,8 +13,9 @@ use Rattle.graph_spec.specs.declared.Edge.{Edge}
 use Rattle.list_lookup.specs.Picked.{in_place}
 use Rattle.edge_queries.specs.Places.{at_start_label}
 use Rattle.order_spec.specs.Order.{reached}
-use Rattle.graph_order.specs.Keys.{key_of, key_cmp, key_by, least_key, lesser, AreKeys, IsLonger}
-use Rattle.graph_order.specs.declared.key.Key.{Key}
+use Rattle.sort_keys.specs.Keys.{key_of, key_cmp, lesser}
+use Rattle.sort_keys.specs.declared.key.Key.{Key}
+use Rattle.graph_order.specs.Keys.{key_by, least_key, AreKeys, IsLonger}
 use Rattle.graph_order.proofs.Least.{least_key_append}
 use Rattle.graph_order.proofs.Ends.{ends_placed}
 

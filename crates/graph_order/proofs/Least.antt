@@ -10,11 +10,12 @@ use Rattle.std.specs.Ordering.{is_lt, ordering_reverse, ordering_then}
 use Rattle.std.specs.Cmp.{IsTotalOrder}
 use Rattle.sd_value.specs.Order.{value_cmp}
 use Rattle.sd_value.specs.declared.Value.{Value}
-use Rattle.order_spec.specs.Order.{folded_cmp, least}
-use Rattle.order_laws.proofs.Keys.{folded_total}
-use Rattle.graph_order.specs.Keys.{lesser, key_of, key_cmp, least_key}
-use Rattle.graph_order.specs.declared.key.Key.{Key}
-use Rattle.graph_order.specs.Read.{folded_text}
+use Rattle.key_spec.specs.Keys.{folded_text, folded_cmp}
+use Rattle.key_spec.specs.KeyLaws.{folded_total}
+use Rattle.order_spec.specs.Order.{least}
+use Rattle.sort_keys.specs.Keys.{lesser, key_of, key_cmp}
+use Rattle.sort_keys.specs.declared.key.Key.{Key}
+use Rattle.graph_order.specs.Keys.{least_key}
 
 module _ (R : Value → Value → Ordering) (total : IsTotalOrder R) where
   abbrev pick : Value → Value → Value

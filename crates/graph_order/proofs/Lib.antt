@@ -1,4 +1,3 @@
-mod Folds
 mod Growth
 mod Along
 mod ByNode

@@ -14,10 +14,11 @@ use Rattle.sd_value.specs.AscendingLaws.{one_list}
 use Rattle.sd_value.specs.Members.{Contains-here, Contains-there, Contains-map, Contains-mapped}
 use Rattle.sd_value.specs.declared.Value.{Value}
 use Rattle.graph_spec.specs.DataGraph.{DataGraph, HasMember, node}
-use Rattle.order_spec.specs.Order.{Order, folded_cmp, turned_cmp, keyed_cmp, least, reached, order_cmp, nodes_in, in_order}
+use Rattle.key_spec.specs.Keys.{folded_text, folded_cmp, turned_cmp, keyed_cmp}
+use Rattle.order_spec.specs.Order.{Order, least, reached, order_cmp, nodes_in, in_order}
 use Rattle.order_laws.proofs.Keys.{order_total, member, of_member, in_order_exactly}
-use Rattle.graph_order.specs.Keys.{key_of, key_cmp, ranked, ranked_by, ranked_cmp}
-use Rattle.graph_order.specs.Read.{folded_text}
+use Rattle.sort_keys.specs.Keys.{key_of, key_cmp}
+use Rattle.graph_order.specs.Keys.{ranked, ranked_by, ranked_cmp}
 use Rattle.graph_order.specs.declared.members.Ranked.{Ranked}
 use Rattle.graph_order.proofs.Least.{keys_order}
 

@@ -16,7 +16,7 @@ use Rattle.graph_order.specs.Numbers.{numbers_from, edges_of_member, numbered_cm
 use Rattle.graph_order.specs.declared.numbers.Numbered.{Numbered}
 use Rattle.graph_order.proofs.ByNode.{stated_members}
 use Rattle.sd_value.specs.Ascending.{ListsExactly}
-use Rattle.graph_order.specs.Read.{folded_text}
+use Rattle.key_spec.specs.Keys.{folded_text}
 use Rattle.order_spec.specs.Read.{order_of}
 use Rattle.order_spec.specs.declared.Order.{Order as CodeOrder}
 use Rattle.graph_order.specs.declared.OrderFault.TheVariants.{TooManyEdges as Grows}

@@ -6,7 +6,7 @@ use Rattle.sd_graph.specs.declared.Limits.{Limits}
 use Rattle.sd_graph.specs.declared.GraphRefusal.{GraphRefusal}
 use Rattle.sd_graph.specs.declared.GraphRefusal.TheVariants.{TooManyNodes, TooManyEdges, NoMemory}
 use Rattle.order_spec.specs.Order.{Order, ordered, all_ordered}
-use Rattle.graph_order.specs.Read.{folded_text}
+use Rattle.key_spec.specs.Keys.{folded_text}
 use Rattle.graph_order.specs.declared.OrderFault.{OrderFault}
 use Rattle.graph_order.specs.declared.OrderFault.TheVariants.{TooManyEdges as Grows, NoMemory as OutOfMemory}
 

@@ -1,36 +1,18 @@
 -- The keys of nodes, as they are compared.
-use Rattle.std.specs.Prelude.{◌≡◌, List, [], ◌∷◌, map, Bool, true, false, Option, Some, None, Contains, if◌then◌else◌}
+use Rattle.std.specs.Prelude.{◌≡◌, List, [], ◌∷◌, map, Bool, true, false, Option, None, Contains}
 use Rattle.std.specs.Option.{option_map}
 use Rattle.std.specs.declared.cmp.Ordering.{Ordering}
-use Rattle.std.specs.Ordering.{on, then_cmp, is_lt}
+use Rattle.std.specs.Ordering.{on, then_cmp}
 use Rattle.sd_value.specs.Names.{Name, Label, Word}
-use Rattle.sd_value.specs.Order.{bytes_cmp, value_cmp}
+use Rattle.sd_value.specs.Order.{bytes_cmp}
 use Rattle.sd_value.specs.declared.Value.{Value}
 use Rattle.graph_spec.specs.DataGraph.{DataGraph, IsEnd, node}
 use Rattle.graph_spec.specs.declared.Edge.{Edge}
-use Rattle.order_spec.specs.Order.{folded, folded_cmp, turned_cmp, keyed_cmp, least, reached}
-use Rattle.graph_order.specs.Read.{folded_text}
-use Rattle.graph_order.specs.declared.key.Key.{Key}
+use Rattle.key_spec.specs.Keys.{folded_text, folded_cmp, turned_cmp, keyed_cmp}
+use Rattle.order_spec.specs.Order.{least, reached}
+use Rattle.sort_keys.specs.Keys.{key_of, key_cmp}
+use Rattle.sort_keys.specs.declared.key.Key.{Key}
 use Rattle.graph_order.specs.declared.members.Ranked.{Ranked}
-
--- where a value stands among others
-abbrev pub stands_at : Bool → Value → Value
-stands_at false v = v
-stands_at true v = folded folded_text v
-
--- a value as it is compared
-abbrev pub key_of : Bool → Value → Key
-key_of b v = record { stands = stands_at b v; value = v }
-
--- by where they stand, ties by value
-abbrev pub key_cmp : Key → Key → Ordering
-key_cmp = then_cmp (on (λ k. k.stands) value_cmp) (on (λ k. k.value) value_cmp)
-
--- the lesser, the first of two that tie
-abbrev pub lesser : {X : Type 0} → (X → X → Ordering) → Option X → Option X → Option X
-lesser R None b = b
-lesser R (Some a) None = Some a
-lesser R (Some a) (Some b) = Some (if is_lt (R b a) then b else a)
 
 -- the least of values, as a key
 abbrev pub least_key : Bool → List Value → Option Key

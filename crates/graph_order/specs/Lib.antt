@@ -1,4 +1,3 @@
-pub mod Read
 pub mod Adding
 pub mod Keys
 pub mod KeyLaws

@@ -6,11 +6,11 @@ ghost use Rattle.order_spec.specs.Order.{reached};
 ghost use Rattle.graph_order.specs.Known.{IsKnown};
 ghost use Rattle.graph_order.specs.Keys.{IsLonger, key_by, least_key, EndWithin};
 
-use crate::key::{Key, lesser};
 use edge_queries::Out;
 use list_lookup::part;
 use sd_graph::{Edge, Graph};
 use sd_value::{Datum, NoMemory, Str, Value};
+use sort_keys::{Key, lesser};
 use std::alloc::Global;
 
 /// What the keys of the graph's nodes are by a word. By the word without labels each value is its own key, and no list is

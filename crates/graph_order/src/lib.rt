@@ -7,7 +7,6 @@ ghost use Rattle.order_spec.specs.Read.{order_of};
 ghost use Rattle.graph_order.specs.Answers.{Fits, AnswersOrder, AnswersOrders};
 
 mod adding;
-mod key;
 mod keys;
 mod members;
 mod numbers;

@@ -5,18 +5,19 @@ ghost use Rattle.std.specs.Cmp.{partial_equiv_from_equiv, eq_by_cmp_equiv};
 ghost use Rattle.std.specs.Cmp.{partial_order_from_agreeing_total};
 ghost use Rattle.graph_spec.specs.DataGraph.{HasMember, node};
 ghost use Rattle.sd_value.specs.Ascending.{ListsExactly};
-ghost use Rattle.order_spec.specs.Order.{keyed_cmp, turned_cmp, in_order, nodes_in};
+ghost use Rattle.key_spec.specs.Keys.{keyed_cmp, turned_cmp, folded_text};
+ghost use Rattle.order_spec.specs.Order.{in_order, nodes_in};
 ghost use Rattle.graph_order.specs.Known.{IsKnown};
-ghost use Rattle.graph_order.specs.Keys.{key_by, key_cmp, ranked, ranked_by, down_cmp, ranked_cmp};
-ghost use Rattle.graph_order.specs.Read.{folded_text};
+ghost use Rattle.sort_keys.specs.Keys.{key_cmp};
+ghost use Rattle.graph_order.specs.Keys.{key_by, ranked, ranked_by, down_cmp, ranked_cmp};
 ghost use Rattle.order_spec.specs.Read.{order_of};
 ghost use Rattle.graph_order.specs.KeyLaws.{ranked_cmp-total, ranked_cmp-exact};
 
 use crate::Order;
-use crate::key::Key;
 use crate::keys::Known;
 use sd_graph::{Graph, Member};
 use sd_value::{Datum, ExactOrd, NoMemory, Str, Value, sort_and_dedup};
+use sort_keys::Key;
 use std::alloc::Global;
 use std::cmp::Ordering;
 

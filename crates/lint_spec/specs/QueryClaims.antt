@@ -13,6 +13,7 @@ use Rattle.struql_ast.specs.declared.Operand.{Operand}
 use Rattle.struql_ast.specs.declared.Operand.TheVariants as operand
 use Rattle.struql_ast.specs.Written.{Step, arc_variable, expression, Condition, member, path}
 use Rattle.struql_ast.specs.Written.{compare, one_of, kind, negation, Term, Target, plain, made}
+use Rattle.struql_ast.specs.Written.{summed}
 use Rattle.struql_ast.specs.Written.{Link, Clauses, Blocks, no_blocks, block, Query}
 use Rattle.lint_spec.specs.declared.Asked.{Asked}
 use Rattle.lint_spec.specs.declared.Asked.TheVariants as asked
@@ -103,6 +104,7 @@ create_claim t = claim (asked.Created t.function) t.span.start
 abbrev pub target_claims : Target → List Claim
 target_claims (plain o) = []
 target_claims (made t) = claim (asked.Linked t.function) t.span.start ∷ []
+target_claims (summed a place) = []
 
 -- ---- blocks
 

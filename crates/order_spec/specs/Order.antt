@@ -4,17 +4,17 @@ use Rattle.std.specs.Prelude.{ℕ, ◌+◌, ◌/◌, pos, Bool, true, false, ◌
 use Rattle.std.specs.List.{flat_map}
 use Rattle.std.specs.BTreeSet.{insert_key}
 use Rattle.std.specs.declared.cmp.Ordering.{Ordering}
-use Rattle.std.specs.declared.cmp.Ordering.TheVariants.{Less, Equal, Greater}
 use Rattle.std.specs.Ordering.{on, then_cmp, is_lt, eq_by_cmp}
-use Rattle.sd_value.specs.declared.Datum.TheVariants.{Int, Text, Url, File, Node}
+use Rattle.sd_value.specs.declared.Datum.TheVariants.{Int, Node}
 use Rattle.sd_value.specs.declared.Value.{Value}
 use Rattle.sd_value.specs.declared.Value.TheVariants.{Data, Page}
 use Rattle.sd_value.specs.Names.{Label, Word}
-use Rattle.sd_value.specs.Order.{bytes_cmp, value_cmp}
+use Rattle.sd_value.specs.Order.{bytes_cmp}
 use Rattle.graph_spec.specs.declared.Edge.{Edge}
 use Rattle.graph_spec.specs.declared.Member.{Member}
 use Rattle.graph_spec.specs.Orders.{edge_cmp}
 use Rattle.graph_spec.specs.DataGraph.{DataGraph, Name, node}
+use Rattle.key_spec.specs.Keys.{folded_cmp, turned_cmp, keyed_cmp}
 
 -- an edge that each member is given
 pub data Place : Type 0 where
@@ -56,28 +56,6 @@ least R [] = None
 least R (v ∷ vs) = Some (fold (λ a b. if is_lt (R b a) then b else a) v vs)
 
 -- ---- the order of members
-
--- where a value stands: a Text where its folded text does
-abbrev pub folded : (Name → Name) → Value → Value
-folded f (Data (Text t)) = Data (Text (f t))
-folded f v = v
-
--- of texts: as a fold makes them, ties by bytes
-abbrev pub folded_cmp : (Name → Name) → Bool → Value → Value → Ordering
-folded_cmp f false = value_cmp
-folded_cmp f true = then_cmp (on (folded f) value_cmp) value_cmp
-
--- the order, or that turned round
-abbrev pub turned_cmp : {X : Type 0} → Bool → (X → X → Ordering) → X → X → Ordering
-turned_cmp false R a b = R a b
-turned_cmp true R a b = R b a
-
--- those without a key come last
-abbrev pub keyed_cmp : {X : Type 0} → (X → X → Ordering) → Option X → Option X → Ordering
-keyed_cmp R (Some a) (Some b) = R a b
-keyed_cmp R (Some a) None = Less
-keyed_cmp R None (Some b) = Greater
-keyed_cmp R None None = Equal
 
 -- by key, ties by node. `f` is how texts are folded
 abbrev pub order_cmp : (Name → Name) → DataGraph → Order → Name → Name → Ordering

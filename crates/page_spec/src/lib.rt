@@ -2,7 +2,10 @@
 //! laws, no engine.
 #![tactic(auto)]
 
+ghost use Rattle.std.specs.Prelude.{◌≡◌};
+
 use sd_value::{Str, Value};
+use std::marker::Model;
 
 mod keys;
 
@@ -29,10 +32,49 @@ pub struct Bound {
     pub value: Value,
 }
 
-/// A value and the key by which it is put in order.
+/// Where a value stands by one key: upwards or downwards by this value, or last, without the key.
+#[derive(Drop)]
+pub enum Place {
+    Up(Value),
+    Down(Value),
+    Last,
+}
+
+/// Where a value stands by its keys, one after another.
+#[derive(Drop)]
+pub struct Places {
+    list: Vec<Place>,
+}
+
+impl Model for Places {
+    ghost use Rattle.std.specs.Prelude.{List};
+    ghost use Rattle.page_spec.specs.declared.Place.{Place};
+
+    ghost Value = { List Place };
+
+    ghost view = { λ p. p.list.items };
+}
+
+impl Places {
+    /// These places.
+    pub fn new(list: Vec<Place>) -> Places
+        ensures { result ≡ list.items }
+    {
+        Places { list }
+    }
+
+    /// The places in their order.
+    pub fn list(&self) -> &[Place]
+        ensures { result.now ≡ self.now }
+    {
+        self.list.as_slice()
+    }
+}
+
+/// A value and the places by which it is put in order.
 #[derive(Drop)]
 pub struct Keyed {
-    pub key: Option<Value>,
+    pub places: Places,
     pub value: Value,
 }
 

@@ -1,5 +1,5 @@
 -- Links of a query where they are written.
-use Rattle.std.specs.Prelude.{Bool, false, List, [], ◌∷◌, map, filter, Option, Some, None}
+use Rattle.std.specs.Prelude.{Bool, false, ◌&&◌, List, [], ◌∷◌, map, filter, Option, Some, None}
 use Rattle.std.specs.Borrow.{Bor}
 use Rattle.std.specs.List.{list_any, list_all}
 use Rattle.sd_value.specs.Names.{Name}
@@ -9,7 +9,7 @@ use Rattle.struql_ast.specs.declared.Link.{Link}
 use Rattle.struql_ast.specs.Reading.{link_of}
 use Rattle.constraint_spec.specs.Certificate.{target_names}
 use Rattle.constraint_spec.specs.Placed.{PlacedLink}
-use Rattle.constraint_recheck.specs.Recheck.{is_of}
+use Rattle.constraint_recheck.specs.Recheck.{is_of, is_per_row}
 
 -- the link under the conditions of its chain
 abbrev pub placed : List Condition → Link → PlacedLink
@@ -32,10 +32,11 @@ is_end (Some h) target = is_of h target
 abbrev pub ends_at : Option Name → PlacedLink → Bool
 ends_at h k = is_end h k.link.target
 
--- the variables of the link's target are all among its source's
+-- the link ends at no aggregate, and the variables of its target are all among its source's
 abbrev pub has_target_in_source : PlainLink → Bool
 has_target_in_source k =
-    list_all (λ x. list_any (same_name x) (target_names k.source)) (target_names k.target)
+    is_per_row k.target
+    && list_all (λ x. list_any (same_name x) (target_names k.source)) (target_names k.target)
 
 -- the list has one link alone, and it passes
 abbrev pub one_passes : (PlainLink → Bool) → List PlainLink → Bool

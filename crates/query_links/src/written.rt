@@ -46,7 +46,7 @@ fn add_target<'a>(
         ++ of_function function.now (target_terms (target_of target.now))) }
 {
     match target {
-        Target::Plain(_) => Ok(()),
+        Target::Plain(_) | Target::Summed(_, _) => Ok(()),
         Target::Made(term) => add(found, function, term),
     }
 }

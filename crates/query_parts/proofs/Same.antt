@@ -17,8 +17,9 @@ use Rattle.query_spec.specs.declared.Op.TheVariants.{Eq, Ne, Lt, Le, Gt, Ge, Tex
 use Rattle.query_spec.specs.declared.Test.{Test}
 use Rattle.query_spec.specs.declared.Test.TheVariants.{IsInt, IsText, IsUrl, IsFile, IsNode}
 use Rattle.query_spec.specs.Query.{Operand, variable, constant, PathStep, arc_variable, expression, Condition, member, path, compare, one_of, kind, negation, SkolemTerm, Target, plain, made}
+use Rattle.query_spec.specs.Query.{Aggregate, count_of, min_of, max_of, sum_of, summed}
 use Rattle.query_spec.specs.Mentions.{same_name}
-use Rattle.query_parts.specs.Same.{same_list, same_value, same_regex, same_op, same_test, same_operand, same_step, same_condition, same_term, same_target}
+use Rattle.query_parts.specs.Same.{same_list, same_value, same_regex, same_op, same_test, same_operand, same_step, same_condition, same_term, same_aggregate, same_target}
 use Rattle.query_parts.proofs.Bools.{never, always, as_well, both}
 
 tie : (o : Ordering) → is_eq o ≡ true → o ≡ Equal
@@ -116,8 +117,22 @@ term_decides s t =
     (λ e. (ap (λ (z : SkolemTerm). z.function) e, ap (λ (z : SkolemTerm). z.args) e))
     (both (same_name s.function t.function) (same_list same_operand s.args t.args) (name_decides s.function t.function) (list_decides same_operand operand_decides s.args t.args))
 
+pub aggregate_decides : (a b : Aggregate) → Decides (same_aggregate a b) (a ≡ b)
+aggregate_decides (count_of v) (count_of w) = as_well (same_name v w) (ap count_of) (λ e. let p : v ≡ w = cc in p) (name_decides v w)
+aggregate_decides (min_of v) (min_of w) = as_well (same_name v w) (ap min_of) (λ e. let p : v ≡ w = cc in p) (name_decides v w)
+aggregate_decides (max_of v) (max_of w) = as_well (same_name v w) (ap max_of) (λ e. let p : v ≡ w = cc in p) (name_decides v w)
+aggregate_decides (sum_of v x) (sum_of w y) =
+    as_well (same_name v w && same_name x y) (λ h. λ i. sum_of (h.0 i) (h.1 i)) (λ e. (let p : v ≡ w = cc in p, let q : x ≡ y = cc in q))
+    (both (same_name v w) (same_name x y) (name_decides v w) (name_decides x y))
+aggregate_decides a b = never (λ e. cc)
+
 pub target_decides : (s t : Target) → Decides (same_target s t) (s ≡ t)
 target_decides (plain o) (plain p) = as_well (same_operand o p) (ap plain) (λ e. let q : o ≡ p = cc in q) (operand_decides o p)
 target_decides (plain o) (made t) = never (λ e. cc)
 target_decides (made s) (plain p) = never (λ e. cc)
 target_decides (made s) (made t) = as_well (same_term s t) (ap made) (λ e. let q : s ≡ t = cc in q) (term_decides s t)
+target_decides (summed a) (summed b) = as_well (same_aggregate a b) (ap summed) (λ e. let q : a ≡ b = cc in q) (aggregate_decides a b)
+target_decides (summed a) (plain p) = never (λ e. cc)
+target_decides (summed a) (made t) = never (λ e. cc)
+target_decides (plain o) (summed b) = never (λ e. cc)
+target_decides (made s) (summed b) = never (λ e. cc)

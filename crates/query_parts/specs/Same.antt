@@ -12,6 +12,7 @@ use Rattle.query_spec.specs.declared.Test.{Test}
 use Rattle.query_spec.specs.declared.Test.TheVariants.{IsInt, IsText, IsUrl, IsFile, IsNode}
 use Rattle.query_spec.specs.Query.{Operand, variable, constant, PathStep, arc_variable, expression, Condition, member}
 use Rattle.query_spec.specs.Query.{path, compare, one_of, kind, negation, SkolemTerm, Target, plain, made}
+use Rattle.query_spec.specs.Query.{Aggregate, count_of, min_of, max_of, sum_of, summed}
 use Rattle.query_spec.specs.Mentions.{same_name}
 
 -- the lists are the same, item by item
@@ -90,9 +91,20 @@ same_condition c d = false
 abbrev pub same_term : SkolemTerm → SkolemTerm → Bool
 same_term s t = same_name s.function t.function && same_list same_operand s.args t.args
 
+-- the aggregates are the same
+abbrev pub same_aggregate : Aggregate → Aggregate → Bool
+same_aggregate (count_of v) (count_of w) = same_name v w
+same_aggregate (min_of v) (min_of w) = same_name v w
+same_aggregate (max_of v) (max_of w) = same_name v w
+same_aggregate (sum_of v x) (sum_of w y) = same_name v w && same_name x y
+same_aggregate a b = false
+
 -- the targets are the same
 abbrev pub same_target : Target → Target → Bool
 same_target (plain o) (plain p) = same_operand o p
 same_target (plain o) (made t) = false
 same_target (made s) (plain p) = false
 same_target (made s) (made t) = same_term s t
+same_target (summed a) (summed b) = same_aggregate a b
+same_target (summed a) t = false
+same_target s (summed b) = false

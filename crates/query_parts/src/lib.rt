@@ -5,7 +5,7 @@ ghost use Rattle.std.specs.Prelude.{◌≡◌, ◌++◌, IfOk, map};
 ghost use Rattle.rpe.specs.Regex.{seq, alt, star};
 ghost use Rattle.query_spec.specs.Query.{member, path, compare, one_of, kind, negation};
 ghost use Rattle.rpe.specs.Reading.{regex_of};
-ghost use Rattle.struql_ast.specs.Reading.{operand_of, step_of, condition_of, term_of, target_of, label_of, link_of, collect_of};
+ghost use Rattle.struql_ast.specs.Reading.{operand_of, step_of, condition_of, term_of, aggregate_of, target_of, label_of, link_of, collect_of};
 
 use query_spec::{Op, Test};
 use rpe::Rpe;
@@ -13,7 +13,7 @@ use sd_lex::Span;
 use sd_value::{NoMemory, Str, Value, copied_list};
 use std::alloc::Global;
 use struql_ast::{
-    Collect, Condition, Constants, Link, LinkLabel, Operand, PathStep, SkolemTerm, Target,
+    Aggregate, Collect, Condition, Constants, Link, LinkLabel, Operand, PathStep, SkolemTerm, Target,
 };
 
 mod equality;
@@ -258,12 +258,37 @@ pub fn copied_terms(alloc: Global, terms: &[SkolemTerm]) -> Result<Vec<SkolemTer
     Ok(copies)
 }
 
+/// An equal aggregate.
+pub fn copied_aggregate(alloc: Global, aggregate: &Aggregate) -> Result<Aggregate, NoMemory>
+    ensures { IfOk result (λ copy. aggregate_of copy ≡ aggregate_of aggregate.now) }
+{
+    match aggregate {
+        Aggregate::Count(name, span) => Ok(Aggregate::Count(name.copy(alloc)?, *span)),
+        Aggregate::Min(name, span) => Ok(Aggregate::Min(name.copy(alloc)?, *span)),
+        Aggregate::Max(name, span) => Ok(Aggregate::Max(name.copy(alloc)?, *span)),
+        Aggregate::Sum {
+            value,
+            value_span,
+            key,
+            key_span,
+        } => Ok(Aggregate::Sum {
+            value: value.copy(alloc)?,
+            value_span: *value_span,
+            key: key.copy(alloc)?,
+            key_span: *key_span,
+        }),
+    }
+}
+
 fn copied_target(alloc: Global, target: &Target) -> Result<Target, NoMemory>
     ensures { IfOk result (λ copy. target_of copy ≡ target_of target.now) }
 {
     match target {
         Target::Plain(plain) => Ok(Target::Plain(copied_operand(alloc, plain)?)),
         Target::Made(made) => Ok(Target::Made(copied_term(alloc, made)?)),
+        Target::Summed(aggregate, span) => {
+            Ok(Target::Summed(copied_aggregate(alloc, aggregate)?, *span))
+        }
     }
 }
 

@@ -14,7 +14,8 @@ use Rattle.query_spec.specs.contracts.Variable as variable_row
 use Rattle.query_spec.specs.declared.Variable.{Variable}
 use Rattle.query_spec.specs.Query.{Operand, variable, constant, PathStep, arc_variable, expression}
 use Rattle.query_spec.specs.Query.{Condition, member, path, compare, one_of, kind, negation, Chain}
-use Rattle.query_spec.specs.Query.{SkolemTerm, Target, plain, made, LinkLabel, quoted}
+use Rattle.query_spec.specs.Query.{Aggregate, count_of, min_of, max_of, sum_of}
+use Rattle.query_spec.specs.Query.{SkolemTerm, Target, plain, made, summed, LinkLabel, quoted}
 use Rattle.query_spec.specs.Query.{label_variable, Link, Collect, Body, Blocks, no_blocks, block}
 use Rattle.query_spec.specs.Query.{Query}
 
@@ -94,20 +95,43 @@ chain_code =
 abbrev pub operand_code : Coded Operand
 operand_code = record { code = operand; inj = operand-inj }
 
--- a target as an operand or a term
-abbrev pub from_target : Target → Operand ⊎ SkolemTerm
+abbrev aggregate : Aggregate → Gv
+aggregate (count_of v) = node 0 (coded_name.code v)
+aggregate (min_of v) = node 1 (coded_name.code v)
+aggregate (max_of v) = node 2 (coded_name.code v)
+aggregate (sum_of v x) = node 3 (gcons (coded_name.code v) (coded_name.code x))
+
+-- different aggregates are kept differently
+pub aggregate-inj : (a b : Aggregate) → aggregate a ≡ aggregate b → a ≡ b
+aggregate-inj (count_of v) (count_of w) e = ap count_of (coded_name.inj v w cc)
+aggregate-inj (min_of v) (min_of w) e = ap min_of (coded_name.inj v w cc)
+aggregate-inj (max_of v) (max_of w) e = ap max_of (coded_name.inj v w cc)
+aggregate-inj (sum_of v x) (sum_of w y) e =
+    let p = coded_name.inj v w cc in let q = coded_name.inj x y cc in cc
+aggregate-inj a b e =
+    let kinds : kind_of (aggregate a) ≡ kind_of (aggregate b) = ap kind_of e in absurd (omega arith)
+
+-- aggregates as ghost values
+abbrev pub aggregate_code : Coded Aggregate
+aggregate_code = record { code = aggregate; inj = aggregate-inj }
+
+-- a target as an operand, a term or an aggregate
+abbrev pub from_target : Target → Operand ⊎ (SkolemTerm ⊎ Aggregate)
 from_target (plain operand) = inl operand
-from_target (made t) = inr t
+from_target (made t) = inr (inl t)
+from_target (summed a) = inr (inr a)
 
 -- and back
-abbrev pub to_target : Operand ⊎ SkolemTerm → Target
+abbrev pub to_target : Operand ⊎ (SkolemTerm ⊎ Aggregate) → Target
 to_target (inl operand) = plain operand
-to_target (inr t) = made t
+to_target (inr (inl t)) = made t
+to_target (inr (inr a)) = summed a
 
 -- nothing is lost on the way
 pub to_target-from_target : (t : Target) → to_target (from_target t) ≡ t
 to_target-from_target (plain operand) = refl
 to_target-from_target (made t) = refl
+to_target-from_target (summed a) = refl
 
 -- a link's label as a quoted one or a variable
 abbrev pub from_label : LinkLabel → Name ⊎ Name
@@ -134,7 +158,8 @@ term_code =
 -- targets as ghost values
 abbrev pub target_code : Coded Target
 target_code =
-    code_by (Operand ⊎ SkolemTerm) (coded⊎ operand_code term_code)
+    code_by (Operand ⊎ (SkolemTerm ⊎ Aggregate))
+    (coded⊎ operand_code (coded⊎ term_code aggregate_code))
     from_target to_target to_target-from_target
 
 -- labels of links as ghost values

@@ -37,10 +37,23 @@ pub record SkolemTerm : Type 0 where
   pub function : Name
   pub args : List Operand
 
--- what a link or a COLLECT ends at: an operand, or the page of a term
+-- what a link tells of the values that variables have in many rows
+pub data Aggregate : Type 0 where
+  -- `count(v)`
+  count_of : (v : Name) → Aggregate
+  -- `min(v)`
+  min_of : (v : Name) → Aggregate
+  -- `max(v)`
+  max_of : (v : Name) → Aggregate
+  -- `sum(v OF x)`
+  sum_of : (v x : Name) → Aggregate
+
+-- what a link or a COLLECT ends at: an operand, or the page of a term; and of links alone, an
+-- aggregate
 pub data Target : Type 0 where
   plain : Operand → Target
   made : SkolemTerm → Target
+  summed : Aggregate → Target
 
 -- the label of a link: a quoted one, or the value of a variable
 pub data LinkLabel : Type 0 where

@@ -31,7 +31,7 @@ fn arguments(target: &Target) -> &[Operand]
     ensures { map operand_of result.now ≡ arguments_of (target_of target.now) }
 {
     match target {
-        Target::Plain(_) => &[],
+        Target::Plain(_) | Target::Summed(_, _) => &[],
         Target::Made(term) => term.args.as_slice(),
     }
 }

@@ -6,7 +6,7 @@ use Rattle.std.specs.List.{flat_map}
 use Rattle.sd_value.specs.Ascending.{ListsExactly}
 use Rattle.token_writer.specs.Writing.{quoted_text}
 use Rattle.query_spec.specs.Query as plain
-use Rattle.query_spec.specs.Query.{Target, made, Query, blocks_in_scope}
+use Rattle.query_spec.specs.Query.{Target, made, summed, Query, blocks_in_scope}
 use Rattle.struql_print.specs.Texts.{label_text}
 use Rattle.site_spec.specs.Schema.{SchemaEdge, schema_edges, starts_at}
 use Rattle.schema.specs.declared.SchemaFunction.{SchemaFunction}
@@ -22,6 +22,7 @@ node_text f = quoted_text (function_name f)
 abbrev pub end_node : Target → List ℕ
 end_node (plain.plain operand) = quoted_text (codes "other")
 end_node (made t) = node_text (term_function t)
+end_node (summed a) = quoted_text (codes "other")
 
 -- what stands at an edge: `N: LABEL`, and a line for each condition
 abbrev pub edge_label : ℕ → SchemaEdge → List ℕ

@@ -7,7 +7,7 @@ use Rattle.sd_value.specs.Names.{Name}
 use Rattle.sd_value.specs.Order.{bytes_cmp}
 use Rattle.sd_value.specs.Ascending.{ListsExactly}
 use Rattle.query_spec.specs.Query as plain
-use Rattle.query_spec.specs.Query.{Condition, SkolemTerm, Target, made, Link, Body, Query}
+use Rattle.query_spec.specs.Query.{Condition, SkolemTerm, Target, made, summed, Link, Body, Query}
 use Rattle.query_spec.specs.Query.{blocks_in_scope}
 use Rattle.site_spec.specs.Site.{SomeOf}
 use Rattle.struql_print.specs.Texts.{condition_text, label_text, link_text}
@@ -42,11 +42,13 @@ conditions_text version conditions = flat_map (λ c. codes "\n" ++ condition_tex
 abbrev pub source_function : Target → SchemaFunction
 source_function (plain.plain operand) = record { name = []; arity = 0 }
 source_function (made t) = term_function t
+source_function (summed a) = record { name = []; arity = 0 }
 
 -- the function at which a link ends, if it ends at a term
 abbrev pub target_function : Target → Option SchemaFunction
 target_function (plain.plain operand) = None
 target_function (made t) = Some (term_function t)
+target_function (summed a) = None
 
 -- a link with this number, path and text of conditions
 abbrev pub row_of : ℕ → List ℕ → List ℕ → Link → SchemaEdge

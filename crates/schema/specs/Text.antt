@@ -5,7 +5,7 @@ use Rattle.std.specs.Fmt.{decimal}
 use Rattle.std.specs.List.{flat_map}
 use Rattle.sd_value.specs.Ascending.{ListsExactly}
 use Rattle.query_spec.specs.Query as plain
-use Rattle.query_spec.specs.Query.{Target, made, Query, blocks_in_scope}
+use Rattle.query_spec.specs.Query.{Target, made, summed, Query, blocks_in_scope}
 use Rattle.struql_print.specs.Texts.{link_text}
 use Rattle.site_spec.specs.Schema.{SchemaEdge, schema_edges, starts_at}
 use Rattle.schema.specs.declared.SchemaFunction.{SchemaFunction}
@@ -16,6 +16,7 @@ use Rattle.schema.specs.Rows.{IsFunctionIn}
 abbrev pub end_text : Target → List ℕ
 end_text (plain.plain operand) = codes "other"
 end_text (made t) = t.function
+end_text (summed a) = codes "other"
 
 -- `  link N in PATH: LINK to TARGET`
 abbrev pub edge_line : SchemaEdge → List ℕ

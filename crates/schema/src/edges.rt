@@ -55,7 +55,7 @@ fn source_of(alloc: Global, target: &Target) -> Result<SchemaFunction, NoMemory>
 {
     match target {
         Target::Made(term) => function_of(alloc, term),
-        Target::Plain(_) => Ok(SchemaFunction {
+        Target::Plain(_) | Target::Summed(_, _) => Ok(SchemaFunction {
             name: Str::new(alloc, b"")?,
             arity: 0,
         }),
@@ -68,7 +68,7 @@ fn end_of(alloc: Global, target: &Target) -> Result<Option<SchemaFunction>, NoMe
 {
     match target {
         Target::Made(term) => Ok(Some(function_of(alloc, term)?)),
-        Target::Plain(_) => Ok(None),
+        Target::Plain(_) | Target::Summed(_, _) => Ok(None),
     }
 }
 

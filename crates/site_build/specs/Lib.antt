@@ -4,5 +4,6 @@ pub mod Gains
 pub mod Materialised
 pub mod Places
 pub mod Ranges
+pub mod Sums
 pub mod Widths
 pub mod Fixed

@@ -8,16 +8,17 @@ use Rattle.sd_value.specs.Ascending.{ListsExactly}
 use Rattle.graph_spec.specs.DataGraph.{DataGraph, IsWellFormed}
 use Rattle.tmpl.specs.Body.{TemplateFile}
 use Rattle.page_spec.specs.Pieces.{First}
-use Rattle.query_spec.specs.Query.{Link, Collect}
+use Rattle.query_spec.specs.Query.{Aggregate, Target, plain, made, summed, Link, Collect}
 use Rattle.query_spec.specs.Holds.{Assignment}
 use Rattle.query_spec.specs.Rows.{value_in}
 use Rattle.query_spec.specs.declared.Variable.{Variable}
 use Rattle.struql_ast.specs.declared.SkolemTerm.{SkolemTerm}
-use Rattle.struql_ast.specs.Reading.{term_of}
-use Rattle.site_spec.specs.Site.{Scope, SomeOf, Joins, IsTermUnder, IsTargetUnder, IsNamed, InSite, Linked, CollectedBy, terms_of}
+use Rattle.struql_ast.specs.Reading.{term_of, link_of}
+use Rattle.site_spec.specs.Site.{Scope, SomeOf, Joins, IsTermUnder, IsTargetUnder, IsNamed, InSite, Linked, CollectedBy, part_link, terms_of}
 use Rattle.query_blocks.specs.declared.QueryBlock.{QueryBlock}
 use Rattle.query_blocks.specs.declared.QueryBlocks.{QueryBlocks}
 use Rattle.query_blocks.specs.Blocks.{body_of, scope_of, AreCheckedBlocks}
+use Rattle.aggregate_values.specs.Told.{TellsOf}
 use Rattle.site_lookups.specs.Ends.{BlockJoins, BlockPuts}
 use Rattle.site_build.specs.declared.ordered.Joined.{Joined}
 use Rattle.site_build.specs.declared.ordered.Put.{Put}
@@ -41,6 +42,37 @@ HasCreated variables rows creates terms =
     (p : Term)
     → SomeOf (λ row. SomeOf (λ w. IsTermUnder (value_in variables row) (term_of w) p) creates) rows
     → Contains terms p
+
+-- the links of the block that a row joins
+abbrev pub InJoinsOf : List (List Value) → QueryBlock → Joined → Type 0
+InJoinsOf rows b j =
+    SomeOf (λ row. SomeOf (λ k. IsJoin (link_of k) (value_in b.chain.variables row) j) b.links.items)
+    rows
+
+-- what the aggregate tells of the ends of the links from the same page by the same label
+abbrev pub ToldOf : Aggregate → List Joined → Joined → Type 0
+ToldOf a links j = TellsOf a
+    (λ v. Contains links (record { from = j.from; label = j.label; to = v })) j.to
+
+-- what a link that ends at an aggregate joins, by all of the rows
+abbrev pub SumsUnder : List Variable → List (List Value) → Link → Aggregate → Joined → Type 0
+SumsUnder variables rows k a j = TellsOf a
+    (λ v. SomeOf (λ row. IsJoin (part_link a k) (value_in variables row) (record {
+      from = j.from;
+      label = j.label;
+      to = v;
+    })) rows) j.to
+
+-- the same of any link
+abbrev pub IsSumUnder : List Variable → List (List Value) → Link → Target → Joined → Type 0
+IsSumUnder variables rows k (plain operand) j = ⊥
+IsSumUnder variables rows k (made t) j = ⊥
+IsSumUnder variables rows k (summed a) j = SumsUnder variables rows k a j
+
+-- the links of the block that end at an aggregate
+abbrev pub InSumsOf : List (List Value) → QueryBlock → Joined → Type 0
+InSumsOf rows b j =
+    SomeOf (λ k. IsSumUnder b.chain.variables rows (link_of k) (link_of k).target j) b.links.items
 
 -- what the rows of one block add
 pub record BlockAdds (G : DataGraph) (b : QueryBlock) (old new : Made) : Type 0 where

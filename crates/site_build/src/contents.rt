@@ -1,19 +1,20 @@
 // What is in a site: every block's rows are asked for once.
-ghost use Rattle.std.specs.Prelude.{◌≡◌, Contains, IfOk, OnOk, length};
+ghost use Rattle.std.specs.Prelude.{◌≡◌, ◌⊎◌, Contains, IfOk, OnOk, length};
 ghost use Rattle.query_spec.specs.Mentions.{IsWellMade};
 ghost use Rattle.query_spec.specs.Rows.{value_in};
-ghost use Rattle.struql_ast.specs.Reading.{link_of, collect_of};
+ghost use Rattle.struql_ast.specs.Reading.{collect_of};
 ghost use Rattle.site_spec.specs.Site.{IsTermUnder, SomeOf, terms_of};
 ghost use Rattle.query_blocks.specs.declared.QueryBlock.{QueryBlock as AnyScoped};
 ghost use Rattle.query_blocks.specs.Blocks.{AreCheckedBlocks, body_of, scope_of};
 ghost use Rattle.site_build.specs.Gains.{Gains};
 ghost use Rattle.site_build.specs.Ranges.{AreRanges, range_at};
-ghost use Rattle.site_build.specs.Materialised.{IsJoin, IsPutUnder, BlockAdds, BlocksAdd, IsContents};
+ghost use Rattle.site_build.specs.Materialised.{InJoinsOf, InSumsOf, IsPutUnder, BlockAdds, BlocksAdd, IsContents};
 
 use crate::ascending::ascending;
 use crate::made::add_rows;
 use crate::ordered::{Joined, Put};
 use crate::ranges::{Range, ranges_of};
+use crate::sums::add_sums;
 use crate::terms::{add_collect_terms, add_link_terms};
 use asker::Asker;
 use indexmap::{IndexMap, IndexSet};
@@ -80,17 +81,13 @@ fn add_links(
     links: &mut IndexSet<Joined>,
 ) -> Result<(), NoMemory>
     ensures { OnOk result
-        (Gains (λ j. SomeOf (λ row. SomeOf (λ k. IsJoin (link_of k)
-        (value_in block.now.chain.variables row) j) block.now.links.items) rows.now) links.old.keys
+        (Gains (λ j. InJoinsOf rows.now block.now j ⊎ InSumsOf rows.now block.now j) links.old.keys
         links.new.keys) }
 {
-    add_rows(
-        alloc,
-        block.chain.variables(),
-        rows,
-        block.links.as_slice(),
-        links,
-    )?;
+    let variables = block.chain.variables();
+    let written = block.links.as_slice();
+    add_rows(alloc, variables, rows, written, links)?;
+    add_sums(alloc, variables, rows, written, links)?;
     Ok(())
 }
 

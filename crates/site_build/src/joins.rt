@@ -5,7 +5,7 @@ ghost use Rattle.sd_value.specs.declared.Value.TheVariants.{Page};
 ghost use Rattle.graph_spec.specs.DataGraph.{Name, text};
 ghost use Rattle.query_spec.specs.Rows.{value_in};
 ghost use Rattle.struql_ast.specs.Reading.{target_of, label_of, link_of};
-ghost use Rattle.site_spec.specs.Site.{IsTargetUnder, IsLabelUnder};
+ghost use Rattle.site_spec.specs.Site.{IsTargetUnder, IsLabelUnder, ended};
 ghost use Rattle.site_build.specs.declared.ordered.Joined.{Joined as AnyJoined};
 ghost use Rattle.site_build.specs.Gains.{Gains};
 ghost use Rattle.site_build.specs.Materialised.{IsJoin};
@@ -81,17 +81,20 @@ fn page_under(
     Ok(value.into_page())
 }
 
-// What the link joins under the row, if it joins something.
+// What the link, ending at the target, joins under the row, if it joins something.
 fn join_under(
     alloc: Global,
     variables: &[Variable],
     row: &[Value],
     link: &Link,
+    target: &Target,
 ) -> Result<Option<Joined>, NoMemory>
     ensures { IfOk result
         (λ o. MatchOption o
-        ((j : AnyJoined) → IsJoin (link_of link.now) (value_in variables.now row.now) j → ⊥)
-        (λ j. IsJoin (link_of link.now) (value_in variables.now row.now) j)) }
+        ((j : AnyJoined) → IsJoin (ended (link_of link.now) (target_of target.now))
+        (value_in variables.now row.now) j → ⊥)
+        (λ j. IsJoin (ended (link_of link.now) (target_of target.now))
+        (value_in variables.now row.now) j)) }
 {
     let Some(from) = page_under(alloc, variables, row, &link.source)? else {
         return Ok(None);
@@ -99,7 +102,7 @@ fn join_under(
     let Some(label) = label_under(alloc, variables, row, &link.label)? else {
         return Ok(None);
     };
-    let Some(to) = target_under(alloc, variables, row, &link.target)? else {
+    let Some(to) = target_under(alloc, variables, row, target)? else {
         return Ok(None);
     };
     Ok(Some(Joined { from, label, to }))
@@ -110,13 +113,14 @@ fn add_join(
     variables: &[Variable],
     row: &[Value],
     link: &Link,
+    target: &Target,
     made: &mut IndexSet<Joined>,
 ) -> Result<(), NoMemory>
     ensures { OnOk result
-        (Gains (IsJoin (link_of link.now) (value_in variables.now row.now)) made.old.keys
-        made.new.keys) }
+        (Gains (IsJoin (ended (link_of link.now) (target_of target.now))
+        (value_in variables.now row.now)) made.old.keys made.new.keys) }
 {
-    let one = join_under(alloc, variables, row, link)?;
+    let one = join_under(alloc, variables, row, link, target)?;
     insert_one(made, one)?;
     Ok(())
 }
@@ -125,7 +129,7 @@ impl Clause<Joined> for Link {
     ghost makes = { λ k s j. IsJoin (link_of k) s j };
 
     fn width(&self, variables: &[Variable]) -> usize {
-        link_width(variables, self)
+        link_width(variables, self, &self.target)
     }
 
     fn add(
@@ -135,6 +139,31 @@ impl Clause<Joined> for Link {
         row: &[Value],
         made: &mut IndexSet<Joined>,
     ) -> Result<(), NoMemory> {
-        add_join(alloc, variables, row, self, made)
+        add_join(alloc, variables, row, self, &self.target, made)
+    }
+}
+
+/// A link with another end than its own.
+#[derive(Debug, Drop)]
+pub(crate) struct Ended<'a, 'b> {
+    pub link: &'a Link,
+    pub target: &'b Target,
+}
+
+impl<'a, 'b> Clause<Joined> for Ended<'a, 'b> {
+    ghost makes = { λ e s j. IsJoin (ended (link_of e.link.now) (target_of e.target.now)) s j };
+
+    fn width(&self, variables: &[Variable]) -> usize {
+        link_width(variables, self.link, self.target)
+    }
+
+    fn add(
+        &self,
+        alloc: Global,
+        variables: &[Variable],
+        row: &[Value],
+        made: &mut IndexSet<Joined>,
+    ) -> Result<(), NoMemory> {
+        add_join(alloc, variables, row, self.link, self.target, made)
     }
 }

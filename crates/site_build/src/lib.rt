@@ -10,6 +10,7 @@ mod ordered;
 mod picked;
 mod ranges;
 mod repeats;
+mod sums;
 mod terms;
 mod whole;
 

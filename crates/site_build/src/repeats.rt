@@ -3,7 +3,7 @@ ghost use Rattle.std.specs.Prelude.{◌≡◌, ◌≤◌, IsTrue, length, take};
 ghost use Rattle.query_spec.specs.Holds.{operand_value};
 ghost use Rattle.query_spec.specs.Rows.{value_in};
 ghost use Rattle.struql_ast.specs.Reading.{operand_of, term_of, target_of, label_of, link_of, collect_of};
-ghost use Rattle.site_spec.specs.Site.{SomeOf, IsTermUnder, IsTargetUnder, IsLabelUnder};
+ghost use Rattle.site_spec.specs.Site.{SomeOf, IsTermUnder, IsTargetUnder, IsLabelUnder, ended};
 ghost use Rattle.site_build.specs.Materialised.{IsJoin, IsPutUnder};
 ghost use Rattle.site_build.specs.Widths.{OnlyReads, OnlyAsks};
 
@@ -61,6 +61,7 @@ fn target_width(variables: &[Variable], target: &Target) -> usize
     match target {
         Target::Plain(operand) => operand_width(variables, operand),
         Target::Made(written) => term_width(variables, written),
+        Target::Summed(_, _) => 0,
     }
 }
 
@@ -74,13 +75,15 @@ fn label_width(variables: &[Variable], label: &LinkLabel) -> usize
     }
 }
 
-/// How many of a row's first values decide what the link joins.
-pub(crate) fn link_width(variables: &[Variable], link: &Link) -> usize
-    ensures { OnlyAsks result (λ row j. IsJoin (link_of link.now) (value_in variables.now row) j) }
+/// How many of a row's first values decide what the link joins, ending at the target.
+pub(crate) fn link_width(variables: &[Variable], link: &Link, target: &Target) -> usize
+    ensures { OnlyAsks result
+        (λ row j. IsJoin (ended (link_of link.now) (target_of target.now))
+        (value_in variables.now row) j) }
 {
     let from = target_width(variables, &link.source);
     let label = label_width(variables, &link.label);
-    let to = target_width(variables, &link.target);
+    let to = target_width(variables, target);
     larger(from, larger(label, to))
 }
 

@@ -76,7 +76,7 @@ fn add_target(
         (target_terms (target_of target.now))) rows.now) made.old.keys made.new.keys) }
 {
     match target {
-        Target::Plain(_) => Ok(()),
+        Target::Plain(_) | Target::Summed(_, _) => Ok(()),
         Target::Made(written) => {
             if is_among(creates, written) {
                 return Ok(());

@@ -20,7 +20,7 @@ fn push_target(alloc: Global, found: &mut Vec<Str>, target: &Target) -> Result<(
         ≡ found.old.items ++ target_functions (target_of target.now)) }
 {
     match target {
-        Target::Plain(_) => Ok(()),
+        Target::Plain(_) | Target::Summed(_, _) => Ok(()),
         Target::Made(term) => {
             found.push(term.function.copy(alloc)?)?;
             Ok(())

@@ -8,8 +8,8 @@ ghost use Rattle.query_spec.specs.Holds.{Assignment};
 ghost use Rattle.query_spec.specs.Mentions.{IsWellMade};
 ghost use Rattle.query_spec.specs.Query.{SkolemTerm};
 ghost use Rattle.std.specs.Prelude.{ℕ};
-ghost use Rattle.struql_ast.specs.Reading.{operand_of, target_of, label_of, link_of};
-ghost use Rattle.site_spec.specs.Site.{IsTargetUnder, IsLabelUnder, IsJoined, Linked, SiteEdge, SomeOf, target_terms};
+ghost use Rattle.struql_ast.specs.Reading.{operand_of, aggregate_of, target_of, label_of, link_of};
+ghost use Rattle.site_spec.specs.Site.{IsTargetUnder, IsLabelUnder, IsSummed, IsJoined, Linked, SiteEdge, SomeOf, target_terms};
 ghost use Rattle.query_blocks.specs.Blocks.{AllDeclared, IsMade, IsCheckedBlock, AreCheckedBlocks};
 ghost use Rattle.query_blocks.specs.Blocks.{scope_of};
 ghost use Rattle.tmpl.specs.Body.{TemplateFile};
@@ -18,18 +18,20 @@ ghost use Rattle.skolem.specs.Solved.{Solves, HasNone, Adds, Refutes};
 ghost use Rattle.weight_spec.specs.Charges.{IsCause};
 ghost use Rattle.weight_spec.specs.CountsAtMost.{CountsAtMost, IsAt};
 ghost use Rattle.site_lookups.specs.Counts.{IsLinkRow};
+ghost use Rattle.aggregate_values.specs.Told.{TellsOf};
 ghost use Rattle.sd_value.specs.Gathered.{Gathered};
-ghost use Rattle.site_lookups.specs.Ends.{IsLabelled, StartsBy};
+ghost use Rattle.site_lookups.specs.Ends.{IsLabelled, StartsBy, LeadsTo};
 
 use crate::all_rows::targets_under;
 use crate::wanted::variables_in;
+use aggregate_values::{part_target, told};
 use asker::Asker;
 use query_blocks::{QueryBlock, QueryBlocks};
 use query_spec::{Bound, Variable};
 use sd_value::{Datum, NoMemory, Str, Term, Value, sort_and_dedup};
 use skolem::{matches, with_value};
 use std::alloc::Global;
-use struql_ast::{Chain, Link, LinkLabel, Target};
+use struql_ast::{Aggregate, Chain, Link, LinkLabel, Target};
 
 // Whether the link has the label under some values. A quoted label is the only one that its link has; a variable can
 // be any.
@@ -99,6 +101,88 @@ fn bound_by(
     }
 }
 
+// What the target is under the rows that give the link the page and the label.
+fn ends_by_rows<A: Asker>(
+    alloc: Global,
+    asker: &mut A,
+    chain: &Chain,
+    link: &Link,
+    target: &Target,
+    term: &Term,
+    label: &Str,
+) -> Result<Vec<Value>, NoMemory>
+    requires well_made { IsWellMade chain.now }
+    requires made { IsMade (link_of link.now).source }
+    requires declared { (t : SkolemTerm) → Contains (target_terms (link_of link.now).source) t
+        → AllDeclared chain.now.variables t }
+    ensures graph { A.graph asker.new ≡ A.graph asker.old }
+    ensures counted { CountsAtMost
+        (IsLinkRow (A.graph asker.old) chain.now term.now label.now (link_of link.now))
+        (A.count asker.old) (A.count asker.new) }
+    ensures ends { IfOk result
+        (λ ends. (v : AnyValue) → Contains ends.items v
+        ↔ LeadsTo (A.graph asker.old) chain.now term.now label.now (link_of link.now)
+        (target_of target.now) v) }
+{
+    match bound_by(alloc, chain.variables(), link, term, label)? {
+        None => Ok(Vec::new(alloc)),
+        Some(bound) => {
+            let wanted = variables_in(alloc, chain.variables(), target)?;
+            let rows = asker.ask_some(alloc, chain, &bound, wanted.as_slice())?;
+            let ends = targets_under(alloc, chain.variables(), rows.as_slice(), target)?;
+            Ok(ends)
+        }
+    }
+}
+
+// What the aggregate tells of the parts, in any order and any number of times, if it tells something.
+fn told_of(
+    alloc: Global,
+    aggregate: &Aggregate,
+    parts: Vec<Value>,
+) -> Result<Vec<Value>, NoMemory>
+    ensures { IfOk result
+        (λ ends. (v : AnyValue) → Contains ends.items v
+        ↔ TellsOf (aggregate_of aggregate.now) (Contains parts.items) v) }
+{
+    let mut parts = parts;
+    sort_and_dedup(&mut parts);
+    let mut ends = Vec::new(alloc);
+    if let Some(end) = told(alloc, aggregate, parts.as_slice())? {
+        ends.push(end)?;
+    }
+    Ok(ends)
+}
+
+// Where the link leads from the page by the label, which its aggregate tells.
+fn ends_by_sum<A: Asker>(
+    alloc: Global,
+    asker: &mut A,
+    chain: &Chain,
+    link: &Link,
+    aggregate: &Aggregate,
+    term: &Term,
+    label: &Str,
+) -> Result<Vec<Value>, NoMemory>
+    requires well_made { IsWellMade chain.now }
+    requires made { IsMade (link_of link.now).source }
+    requires declared { (t : SkolemTerm) → Contains (target_terms (link_of link.now).source) t
+        → AllDeclared chain.now.variables t }
+    ensures graph { A.graph asker.new ≡ A.graph asker.old }
+    ensures counted { CountsAtMost
+        (IsLinkRow (A.graph asker.old) chain.now term.now label.now (link_of link.now))
+        (A.count asker.old) (A.count asker.new) }
+    ensures ends { IfOk result
+        (λ ends. (v : AnyValue) → Contains ends.items v
+        ↔ IsSummed (A.graph asker.old) chain.now (Page term.now) label.now v (link_of link.now)
+        (aggregate_of aggregate.now)) }
+{
+    let part = part_target(alloc, aggregate)?;
+    let parts = ends_by_rows(alloc, asker, chain, link, &part, term, label)?;
+    let ends = told_of(alloc, aggregate, parts)?;
+    Ok(ends)
+}
+
 // Where the link leads from the page by the label.
 fn ends_of_link<A: Asker>(
     alloc: Global,
@@ -120,12 +204,13 @@ fn ends_of_link<A: Asker>(
         (λ ends. (v : AnyValue) → Contains ends.items v
         ↔ IsJoined (A.graph asker.old) chain.now (Page term.now) label.now v (link_of link.now)) }
 {
-    match bound_by(alloc, chain.variables(), link, term, label)? {
-        None => Ok(Vec::new(alloc)),
-        Some(bound) => {
-            let wanted = variables_in(alloc, chain.variables(), &link.target)?;
-            let rows = asker.ask_some(alloc, chain, &bound, wanted.as_slice())?;
-            let ends = targets_under(alloc, chain.variables(), rows.as_slice(), &link.target)?;
+    match &link.target {
+        Target::Summed(aggregate, _) => {
+            let ends = ends_by_sum(alloc, asker, chain, link, aggregate, term, label)?;
+            Ok(ends)
+        }
+        Target::Plain(_) | Target::Made(_) => {
+            let ends = ends_by_rows(alloc, asker, chain, link, &link.target, term, label)?;
             Ok(ends)
         }
     }

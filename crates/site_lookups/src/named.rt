@@ -95,7 +95,7 @@ fn target_named<A: Asker>(
         (target_terms (target_of target.now))) }
 {
     match target {
-        Target::Plain(_) => Ok(false),
+        Target::Plain(_) | Target::Summed(_, _) => Ok(false),
         Target::Made(written) => {
             let found = is_named(alloc, asker, chain, written, term)?;
             Ok(found)

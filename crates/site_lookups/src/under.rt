@@ -52,5 +52,6 @@ pub fn target_under(
             Some(term) => Ok(Some(Value::Page(term))),
             None => Ok(None),
         },
+        Target::Summed(_, _) => Ok(None),
     }
 }

@@ -37,6 +37,7 @@ fn is_in_target(target: &Target, variable: &Variable) -> bool
     match target {
         Target::Plain(operand) => is_in(operand, variable),
         Target::Made(written) => is_in_any(written.args.as_slice(), variable),
+        Target::Summed(_, _) => false,
     }
 }
 

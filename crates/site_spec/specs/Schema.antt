@@ -1,7 +1,8 @@
 -- The schema of a site: its functions, and its links by number, each with the block in which it stands.
 use Rattle.std.specs.Prelude.{◌≡◌, ℕ, suc, ◌+◌, List, [], ◌∷◌, ◌++◌, length, Bool, false}
 use Rattle.sd_value.specs.Names.{Name}
-use Rattle.query_spec.specs.Query.{Condition, SkolemTerm, Target, plain, made, Link, Body, Query}
+use Rattle.query_spec.specs.Query.{Condition, SkolemTerm, Target, plain, made, summed, Link, Body}
+use Rattle.query_spec.specs.Query.{Query}
 use Rattle.query_spec.specs.Query.{blocks_in_scope}
 use Rattle.query_spec.specs.Mentions.{same_name}
 use Rattle.site_spec.specs.Site.{SomeOf}
@@ -38,6 +39,7 @@ schema_edges q = edges_from 1 (paths_from [] 1 q.blocks) (blocks_in_scope q)
 abbrev pub is_made_by : Name → Target → Bool
 is_made_by f (plain operand) = false
 is_made_by f (made t) = same_name t.function f
+is_made_by f (summed a) = false
 
 -- whether the link starts at a term of the function
 abbrev pub starts_at : Name → SchemaEdge → Bool

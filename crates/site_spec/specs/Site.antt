@@ -1,13 +1,18 @@
 -- The site of a query over a data graph: its pages, links and collections, from every row of every
 -- block.
-use Rattle.std.specs.Prelude.{◌≡◌, ◌⊎◌, ℕ, List, [], ◌∷◌, ◌++◌, Contains, Some}
+use Rattle.std.specs.Prelude.{◌≡◌, ◌≢◌, ◌⊎◌, ℕ, ◌-◌, ◌^◌, ℤ, pos, negsuc, ◌≤ℤ◌, ◌+ℤ◌, List, [], ◌∷◌, ◌++◌, length, slice_get, Contains, Some, ⊤}
 use Rattle.std.specs.List.{flat_map, AllZip}
+use Rattle.sd_value.specs.Ascending.{ListsExactly}
+use Rattle.sd_value.specs.Order.{value_cmp}
+use Rattle.sd_value.specs.declared.Datum.{Datum}
+use Rattle.sd_value.specs.declared.Datum.TheVariants.{Int}
 use Rattle.sd_value.specs.declared.Value.{Value}
 use Rattle.sd_value.specs.declared.Value.TheVariants.{Data, Page}
 use Rattle.sd_value.specs.declared.Term.{Term}
 use Rattle.sd_value.specs.Names.{Name, Label}
 use Rattle.graph_spec.specs.DataGraph.{DataGraph, node, text, HasEdge, HasMember}
-use Rattle.query_spec.specs.Query.{SkolemTerm, Target, plain, made, LinkLabel, quoted}
+use Rattle.query_spec.specs.Query.{Operand, variable, Aggregate, count_of, min_of, max_of, sum_of}
+use Rattle.query_spec.specs.Query.{SkolemTerm, Target, plain, made, summed, LinkLabel, quoted}
 use Rattle.query_spec.specs.Query.{label_variable}
 use Rattle.query_spec.specs.Query.{Link, Collect, Body, Chain, Query, blocks_in_scope}
 use Rattle.query_spec.specs.Mentions.{chain_of}
@@ -28,10 +33,17 @@ pub record IsTermUnder (s : Assignment) (t : SkolemTerm) (p : Term) : Type 0 whe
   pub function : p.function ≡ t.function
   pub args : AllZip (λ operand d. operand_value s operand ≡ Some (Data d)) t.args p.args
 
--- the value that a target names under an assignment
+-- the value that a target names under an assignment; an aggregate is of many rows, and names none
 abbrev pub IsTargetUnder : Assignment → Target → Value → Type 0
 IsTargetUnder s (plain operand) v = operand_value s operand ≡ Some v
 IsTargetUnder s (made t) v = (p : Term) × IsTermUnder s t p × (v ≡ Page p)
+IsTargetUnder s (summed a) v = ⊥
+
+-- the target is no aggregate
+abbrev pub IsPerRow : Target → Type 0
+IsPerRow (plain operand) = ⊤
+IsPerRow (made t) = ⊤
+IsPerRow (summed a) = ⊥
 
 -- the label that a link has under an assignment
 abbrev pub IsLabelUnder : Assignment → LinkLabel → Label → Type 0
@@ -52,6 +64,7 @@ chain q b = chain_of q.version b.conditions
 abbrev pub target_terms : Target → List SkolemTerm
 target_terms (plain operand) = []
 target_terms (made t) = t ∷ []
+target_terms (summed a) = []
 
 -- the terms at the ends of a link
 abbrev pub ends_of : Link → List SkolemTerm
@@ -80,8 +93,77 @@ abbrev pub IsNamed : DataGraph → Chain → Term → SkolemTerm → Type 0
 IsNamed G c p t = SomeRow G c (λ s. IsTermUnder s t p)
 
 -- some row makes the link join u to v by the label
+abbrev pub IsRowJoined : DataGraph → Chain → Value → Label → Value → Link → Type 0
+IsRowJoined G c u label v k = SomeRow G c (λ s. Joins s k u label v)
+
+-- ---- aggregates
+
+-- what an aggregate looks at in a row: the value of its variable; for `sum(v OF x)` the values of x
+-- and v, as a term without a name
+abbrev pub part_of : Aggregate → Target
+part_of (count_of v) = plain (variable v)
+part_of (min_of v) = plain (variable v)
+part_of (max_of v) = plain (variable v)
+part_of (sum_of v x) = made (record { function = []; args = variable x ∷ variable v ∷ [] })
+
+-- the link, ending at this target in place of its own
+abbrev pub ended : Link → Target → Link
+ended k t = record { source = k.source; label = k.label; target = t }
+
+-- the link that ends at what its aggregate looks at
+abbrev pub part_link : Aggregate → Link → Link
+part_link a k = ended k (part_of a)
+
+-- the number, if the second of two values is one
+abbrev pub second_number : List Datum → List ℤ
+second_number (x ∷ Int n ∷ []) = n ∷ []
+second_number ds = []
+
+-- the number of such a pair
+abbrev pub pair_number : Value → List ℤ
+pair_number (Page p) = second_number p.args
+pair_number (Data d) = []
+
+abbrev pub total : List ℤ → ℤ
+total [] = pos 0
+total (n ∷ ns) = n +ℤ total ns
+
+-- the number has 64 bits
+pub record IsWord (n : ℤ) : Type 0 where
+  pub low : negsuc (2 ^ 63 - 1) ≤ℤ n
+  pub high : n ≤ℤ pos (2 ^ 63 - 1)
+
+-- what the aggregate tells of the ascending list of all that it looks at: how many there are, the
+-- first, the last, or the sum of the numbers, if there is one and the sum has 64 bits
+abbrev pub IsTold : Aggregate → List Value → Value → Type 0
+IsTold (count_of x) parts v = v ≡ Data (Int (pos (length parts)))
+IsTold (min_of x) parts v = slice_get parts 0 ≡ Some v
+IsTold (max_of x) parts v = slice_get parts (length parts - 1) ≡ Some v
+IsTold (sum_of y x) parts v =
+    (flat_map pair_number parts ≢ []) × IsWord (total (flat_map pair_number parts))
+    × (v ≡ Data (Int (total (flat_map pair_number parts))))
+
+-- of nothing at all nothing is told
+pub record IsToldOf (a : Aggregate) (parts : List Value) (v : Value) : Type 0 where
+  pub some : parts ≢ []
+  pub told : IsTold a parts v
+
+-- v is told of what the aggregate looks at in all rows that give u and the label
+pub record IsSummed (G : DataGraph) (c : Chain) (u : Value) (label : Label) (v : Value) (k : Link)
+    (a : Aggregate) : Type 0 where
+  pub parts : List Value
+  pub all : ListsExactly value_cmp (λ w. IsRowJoined G c u label w (part_link a k)) parts
+  pub told : IsToldOf a parts v
+
+-- the target is an aggregate, and tells v of the rows that give u and the label
+abbrev pub IsSum : DataGraph → Chain → Value → Label → Value → Link → Target → Type 0
+IsSum G c u label v k (plain operand) = ⊥
+IsSum G c u label v k (made t) = ⊥
+IsSum G c u label v k (summed a) = IsSummed G c u label v k a
+
+-- some row makes the link join u to v by the label, or all rows that give u and the label do
 abbrev pub IsJoined : DataGraph → Chain → Value → Label → Value → Link → Type 0
-IsJoined G c u label v k = SomeRow G c (λ s. Joins s k u label v)
+IsJoined G c u label v k = IsRowJoined G c u label v k ⊎ IsSum G c u label v k k.target
 
 -- some row makes the COLLECT put the value under the name
 abbrev pub IsPut : DataGraph → Chain → Name → Value → Collect → Type 0

@@ -10,8 +10,10 @@ use Rattle.struql_ast.specs.declared.PathStep.{PathStep}
 use Rattle.struql_ast.specs.declared.PathStep.TheVariants.{ArcVariable, Expression}
 use Rattle.struql_ast.specs.declared.Condition.{Condition, Member, Path, Compare, OneOf, Kind, Not'}
 use Rattle.struql_ast.specs.declared.SkolemTerm.{SkolemTerm as WrittenTerm}
+use Rattle.struql_ast.specs.declared.Aggregate.{Aggregate}
+use Rattle.struql_ast.specs.declared.Aggregate.TheVariants.{Count, Min, Max, Sum}
 use Rattle.struql_ast.specs.declared.Target.{Target}
-use Rattle.struql_ast.specs.declared.Target.TheVariants.{Plain, Made}
+use Rattle.struql_ast.specs.declared.Target.TheVariants.{Plain, Made, Summed}
 use Rattle.struql_ast.specs.declared.LinkLabel.{LinkLabel}
 use Rattle.struql_ast.specs.declared.LinkLabel.TheVariants as label
 use Rattle.struql_ast.specs.declared.Link.{Link}
@@ -42,10 +44,18 @@ condition_of (Not' p condition span) = plain.negation (condition_of condition)
 abbrev pub term_of : WrittenTerm → plain.SkolemTerm
 term_of t = record { function = t.function; args = map operand_of t.args.items }
 
+-- an aggregate without its places
+abbrev pub aggregate_of : Aggregate → plain.Aggregate
+aggregate_of (Count v span) = plain.count_of v
+aggregate_of (Min v span) = plain.min_of v
+aggregate_of (Max v span) = plain.max_of v
+aggregate_of (Sum v v_span x x_span) = plain.sum_of v x
+
 -- a target without its place
 abbrev pub target_of : Target → plain.Target
 target_of (Plain operand) = plain.plain (operand_of operand)
 target_of (Made term) = plain.made (term_of term)
+target_of (Summed a span) = plain.summed (aggregate_of a)
 
 -- a label without its place
 abbrev pub label_of : LinkLabel → plain.LinkLabel

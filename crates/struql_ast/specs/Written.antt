@@ -12,8 +12,9 @@ use Rattle.struql_ast.specs.declared.PathStep.{PathStep}
 use Rattle.struql_ast.specs.declared.PathStep.TheVariants.{ArcVariable, Expression}
 use Rattle.struql_ast.specs.declared.Condition as declared
 use Rattle.struql_ast.specs.declared.SkolemTerm.{SkolemTerm}
+use Rattle.struql_ast.specs.declared.Aggregate.{Aggregate}
 use Rattle.struql_ast.specs.declared.Target as declared_target
-use Rattle.struql_ast.specs.declared.Target.TheVariants.{Plain, Made}
+use Rattle.struql_ast.specs.declared.Target.TheVariants.{Plain, Made, Summed}
 use Rattle.struql_ast.specs.declared.LinkLabel.{LinkLabel}
 use Rattle.struql_ast.specs.declared.Link as declared_link
 use Rattle.struql_ast.specs.declared.Collect as declared_collect
@@ -51,10 +52,11 @@ pub record Term : Type 0 where
   pub args : List Operand
   pub span : Span
 
--- an operand, or a term
+-- an operand, a term, or an aggregate with its place
 pub data Target : Type 0 where
   plain : Operand → Target
   made : Term → Target
+  summed : Aggregate → Span → Target
 
 -- an edge that a LINK asks for, with its place
 pub record Link : Type 0 where
@@ -112,6 +114,7 @@ term_written t = record { function = t.function; args = t.args.items; span = t.s
 abbrev pub target_written : declared_target.Target → Target
 target_written (Plain o) = plain o
 target_written (Made t) = made (term_written t)
+target_written (Summed a span) = summed a span
 
 -- a link
 abbrev pub link_written : declared_link.Link → Link

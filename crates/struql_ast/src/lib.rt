@@ -125,11 +125,44 @@ impl Drop for SkolemTerm {
     }
 }
 
-/// What a LINK or a COLLECT names: a variable, a constant or a term.
+/// What a LINK tells of many rows, with the places of its variables.
+#[derive(Debug)]
+pub enum Aggregate {
+    Count(Str, Span),
+    Min(Str, Span),
+    Max(Str, Span),
+    /// `sum(value OF key)`
+    Sum {
+        value: Str,
+        value_span: Span,
+        key: Str,
+        key_span: Span,
+    },
+}
+
+// Written out, so that it is proved here once, and not again in each crate that drops one.
+impl Drop for Aggregate {
+    fn drop(self) {
+        match self {
+            Aggregate::Count(_, _) => {}
+            Aggregate::Min(_, _) => {}
+            Aggregate::Max(_, _) => {}
+            Aggregate::Sum {
+                value: _value,
+                value_span: _value_span,
+                key: _key,
+                key_span: _key_span,
+            } => {}
+        }
+    }
+}
+
+/// What a LINK or a COLLECT names: a variable, a constant or a term. A LINK may end at an aggregate.
 #[derive(Debug, Drop)]
 pub enum Target {
     Plain(Operand),
     Made(SkolemTerm),
+    Summed(Aggregate, Span),
 }
 
 /// The label of a LINK: a quoted text, or an arc variable.

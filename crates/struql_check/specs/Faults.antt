@@ -6,7 +6,7 @@ use Rattle.std.specs.List.{list_any}
 use Rattle.std.specs.Str.{bytes_eq}
 use Rattle.rpe.specs.Language.{positions}
 use Rattle.query_spec.specs.Mentions.{same_name, first_mentions}
-use Rattle.struql_ast.specs.Written.{Name, expression, Condition, path, negation, Target, plain, made, Link, Collect, Query}
+use Rattle.struql_ast.specs.Written.{Name, expression, Condition, path, negation, Target, plain, made, summed, Link, Collect, Query}
 use Rattle.struql_check.specs.declared.faults.Check.{Check}
 use Rattle.struql_check.specs.declared.faults.Check.TheVariants.{TooManyPositions, Unbound, NeverCreated, Arity}
 use Rattle.struql_check.specs.declared.faults.Check.TheVariants.{LinkFromData, ArcAsNode, NotLabel, Reserved}
@@ -72,6 +72,7 @@ ConditionFault c check at = ⊥
 abbrev pub is_plain : Target → Bool
 is_plain (plain o) = true
 is_plain (made t) = false
+is_plain (summed a span) = false
 
 -- LinkFromData: a link's source that isn't a term
 abbrev pub LinkFault : Link → Check → ℕ → Type 0

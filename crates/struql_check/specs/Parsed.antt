@@ -5,7 +5,7 @@ use Rattle.sd_value.specs.declared.Datum.TheVariants.{Int, Text}
 use Rattle.sd_value.specs.declared.Value.{Value}
 use Rattle.sd_value.specs.declared.Value.TheVariants.{Data}
 use Rattle.query_spec.specs.Query.{Operand, variable, constant, Condition, member, path, compare, one_of, kind}
-use Rattle.query_spec.specs.Query.{negation, SkolemTerm, Target, plain, made, Link, Body, Blocks, no_blocks, block}
+use Rattle.query_spec.specs.Query.{negation, SkolemTerm, Target, plain, made, summed, Link, Body, Blocks, no_blocks, block}
 use Rattle.query_spec.specs.Query.{Query}
 use Rattle.query_spec.specs.Mentions.{IsFlat, IsVersion}
 
@@ -31,6 +31,7 @@ term_constants t = flat_map operand_constants t.args
 abbrev pub target_constants : Target → List Value
 target_constants (plain o) = operand_constants o
 target_constants (made t) = term_constants t
+target_constants (summed a) = []
 
 -- the constants of a link
 abbrev pub link_constants : Link → List Value
@@ -46,6 +47,7 @@ constants b =
 abbrev pub target_terms : Target → List SkolemTerm
 target_terms (plain o) = []
 target_terms (made t) = t ∷ []
+target_terms (summed a) = []
 
 -- all terms of a block
 abbrev pub body_terms : Body → List SkolemTerm

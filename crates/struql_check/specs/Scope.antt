@@ -4,10 +4,13 @@ use Rattle.std.specs.List.{flat_map, list_any}
 use Rattle.query_spec.specs.Mentions.{same_name}
 use Rattle.struql_ast.specs.declared.Operand.{Operand}
 use Rattle.struql_ast.specs.declared.Operand.TheVariants.{Variable, Constant}
+use Rattle.sd_lex.specs.declared.token.Span.{Span}
+use Rattle.struql_ast.specs.declared.Aggregate.{Aggregate}
+use Rattle.struql_ast.specs.declared.Aggregate.TheVariants.{Count, Min, Max, Sum}
 use Rattle.struql_ast.specs.declared.LinkLabel.{LinkLabel}
 use Rattle.struql_ast.specs.declared.LinkLabel.TheVariants as label
 use Rattle.struql_ast.specs.Written.{Name, Step, arc_variable, expression, Condition, member, path, compare, one_of}
-use Rattle.struql_ast.specs.Written.{kind, negation, Term, Target, plain, made, Link, Collect, Clauses, Blocks}
+use Rattle.struql_ast.specs.Written.{kind, negation, Term, Target, plain, made, summed, Link, Collect, Clauses, Blocks}
 use Rattle.struql_ast.specs.Written.{no_blocks, block, Query}
 use Rattle.struql_check.specs.declared.mentions.VariableUse.{VariableUse}
 use Rattle.struql_check.specs.declared.mentions.Role.{Role}
@@ -39,10 +42,23 @@ mentions (negation c span) = mentions c
 abbrev pub term_mentions : Term → List VariableUse
 term_mentions t = flat_map (operand_mentions Other) t.args
 
+-- the variable of an aggregate
+abbrev pub variable_mention : Name → Span → VariableUse
+variable_mention x span = record { name = x; role = Other; at = span.start }
+
+-- the variables of an aggregate, in the text's order
+abbrev pub aggregate_mentions : Aggregate → List VariableUse
+aggregate_mentions (Count v span) = variable_mention v span ∷ []
+aggregate_mentions (Min v span) = variable_mention v span ∷ []
+aggregate_mentions (Max v span) = variable_mention v span ∷ []
+aggregate_mentions (Sum v v_span x x_span) =
+    variable_mention v v_span ∷ variable_mention x x_span ∷ []
+
 -- the variables of a target
 abbrev pub target_mentions : Target → List VariableUse
 target_mentions (plain o) = operand_mentions Other o
 target_mentions (made t) = term_mentions t
+target_mentions (summed a span) = aggregate_mentions a
 
 -- an arc variable as a link's label
 abbrev pub label_mentions : LinkLabel → List VariableUse
@@ -128,6 +144,7 @@ seen linked t = record {
 abbrev pub target_terms : Target → List SeenTerm
 target_terms (plain o) = []
 target_terms (made t) = seen true t ∷ []
+target_terms (summed a span) = []
 
 -- the terms of a link
 abbrev pub link_terms : Link → List SeenTerm

@@ -4,12 +4,12 @@ ghost use Rattle.std.specs.Prelude.{◌≡◌, [], ◌∷◌, ◌++◌, IfOk, ma
 ghost use Rattle.std.specs.List.{flat_map};
 ghost use Rattle.struql_ast.specs.Written.{condition_written, step_written, target_written, term_written, link_written, collect_written};
 ghost use Rattle.struql_check.specs.Scope.{operand_mentions, step_mentions, mentions, term_mentions, target_mentions};
-ghost use Rattle.struql_check.specs.Scope.{label_mentions, link_mentions, collect_mentions};
+ghost use Rattle.struql_check.specs.Scope.{aggregate_mentions, label_mentions, link_mentions, collect_mentions};
 ghost use Rattle.struql_check.specs.declared.mentions.Role.TheVariants.{Other};
 
 use sd_value::{NoMemory, Str};
 use std::alloc::Global;
-use struql_ast::{Collect, Condition, Link, LinkLabel, Operand, PathStep, SkolemTerm, Target};
+use struql_ast::{Aggregate, Collect, Condition, Link, LinkLabel, Operand, PathStep, SkolemTerm, Target};
 
 /// The part that a variable plays where it is.
 #[derive(Clone, Copy)]
@@ -133,6 +133,30 @@ fn push_term(alloc: Global, found: &mut Vec<VariableUse>, term: &SkolemTerm) -> 
     Ok(())
 }
 
+fn push_aggregate(
+    alloc: Global,
+    found: &mut Vec<VariableUse>,
+    aggregate: &Aggregate,
+) -> Result<(), NoMemory>
+    ensures { IfOk result (λ _. found.new.items
+        ≡ found.old.items ++ aggregate_mentions aggregate.now) }
+{
+    match aggregate {
+        Aggregate::Count(name, span) | Aggregate::Min(name, span) | Aggregate::Max(name, span) => {
+            push_mention(alloc, found, name, Role::Other, span.start)
+        }
+        Aggregate::Sum {
+            value,
+            value_span,
+            key,
+            key_span,
+        } => {
+            push_mention(alloc, found, value, Role::Other, value_span.start)?;
+            push_mention(alloc, found, key, Role::Other, key_span.start)
+        }
+    }
+}
+
 fn push_target(alloc: Global, found: &mut Vec<VariableUse>, target: &Target) -> Result<(), NoMemory>
     ensures { IfOk result (λ _. found.new.items
         ≡ found.old.items ++ target_mentions (target_written target.now)) }
@@ -140,6 +164,7 @@ fn push_target(alloc: Global, found: &mut Vec<VariableUse>, target: &Target) -> 
     match target {
         Target::Plain(operand) => push_operand(alloc, found, operand, Role::Other),
         Target::Made(term) => push_term(alloc, found, term),
+        Target::Summed(aggregate, _) => push_aggregate(alloc, found, aggregate),
     }
 }
 

@@ -45,7 +45,7 @@ fn push_target(alloc: Global, found: &mut Vec<SeenTerm>, target: &Target) -> Res
         ≡ found.old.items ++ target_terms (target_written target.now)) }
 {
     match target {
-        Target::Plain(_) => Ok(()),
+        Target::Plain(_) | Target::Summed(_, _) => Ok(()),
         Target::Made(term) => push_term(alloc, found, true, term),
     }
 }

@@ -18,6 +18,7 @@ use Rattle.value_texts.specs.declared.TextTest.{TextTest}
 use Rattle.value_texts.specs.declared.TextTest.TheVariants.{Starts, Ends, Has}
 use Rattle.query_spec.specs.Query.{Operand, variable, constant, PathStep, arc_variable, expression, Condition, member}
 use Rattle.query_spec.specs.Query.{path, compare, one_of, kind, negation, SkolemTerm, Target, plain, made, LinkLabel}
+use Rattle.query_spec.specs.Query.{Aggregate, count_of, min_of, max_of, sum_of, summed}
 use Rattle.query_spec.specs.Query.{quoted, label_variable, Link, Collect, Body, Blocks, no_blocks, block, Query}
 use Rattle.struql_text.specs.Terminals.{keyword_in, test_of}
 
@@ -105,10 +106,22 @@ operand_text (constant v) = value_text v
 abbrev pub term_text : SkolemTerm → List ℕ
 term_text t = t.function ++ (codes "(" ++ (joined (map operand_text t.args) ++ codes ")"))
 
+-- the name of an aggregate's function, and its variable in parentheses
+abbrev pub applied : List ℕ → List ℕ → List ℕ
+applied f x = f ++ (codes "(" ++ (x ++ codes ")"))
+
+-- `count(v)` and its like, or `sum(v OF x)`
+abbrev pub aggregate_text : Aggregate → List ℕ
+aggregate_text (count_of v) = applied (codes "count") v
+aggregate_text (min_of v) = applied (codes "min") v
+aggregate_text (max_of v) = applied (codes "max") v
+aggregate_text (sum_of v x) = applied (codes "sum") (v ++ (codes " OF " ++ x))
+
 -- the text of a target
 abbrev pub target_text : Target → List ℕ
 target_text (plain operand) = operand_text operand
 target_text (made t) = term_text t
+target_text (summed a) = aggregate_text a
 
 -- the text of a label
 abbrev pub label_text : LinkLabel → List ℕ

@@ -1,13 +1,15 @@
 //! Operands, terms, links and collections.
 
 ghost use Rattle.std.specs.Prelude.{◌≡◌, ◌++◌, IfOk, ℕ, List, map};
-ghost use Rattle.struql_ast.specs.Reading.{operand_of, term_of, target_of, label_of, link_of, collect_of};
+ghost use Rattle.struql_ast.specs.Reading.{operand_of, term_of, aggregate_of, target_of, label_of, link_of, collect_of};
 ghost use Rattle.struql_print.specs.Texts.{joined, value_text, operand_text, term_text, target_text, label_text, link_text, collect_text};
+ghost use Rattle.struql_print.specs.Texts.{applied, aggregate_text};
+ghost use Rattle.query_spec.specs.Query.{sum_of};
 
 use crate::collections::print_collection;
 use crate::listed::{Print, print_listed};
-use sd_value::{Datum, NoMemory, Value};
-use struql_ast::{Collect, Link, LinkLabel, Operand, SkolemTerm, Target};
+use sd_value::{Datum, NoMemory, Str, Value};
+use struql_ast::{Aggregate, Collect, Link, LinkLabel, Operand, SkolemTerm, Target};
 use token_writer::{put, put_int, put_quoted};
 
 // Terms and links are printed alike in each version.
@@ -66,6 +68,38 @@ pub fn print_term(term: &SkolemTerm, out: &mut Vec<u8>) -> Result<(), NoMemory>
     term.print(ANY_VERSION, out)
 }
 
+fn print_applied(function: &[u8], name: &Str, out: &mut Vec<u8>) -> Result<(), NoMemory>
+    ensures { IfOk result (λ _. out.new.items ≡ out.old.items ++ applied function.now name.now) }
+{
+    put(function, out)?;
+    put(b"(", out)?;
+    put(name.bytes(), out)?;
+    put(b")", out)
+}
+
+fn print_sum(value: &Str, key: &Str, out: &mut Vec<u8>) -> Result<(), NoMemory>
+    ensures { IfOk result (λ _. out.new.items
+        ≡ out.old.items ++ aggregate_text (sum_of value.now key.now)) }
+{
+    put(b"sum(", out)?;
+    put(value.bytes(), out)?;
+    put(b" OF ", out)?;
+    put(key.bytes(), out)?;
+    put(b")", out)
+}
+
+fn print_aggregate(aggregate: &Aggregate, out: &mut Vec<u8>) -> Result<(), NoMemory>
+    ensures { IfOk result (λ _. out.new.items
+        ≡ out.old.items ++ aggregate_text (aggregate_of aggregate.now)) }
+{
+    match aggregate {
+        Aggregate::Count(name, _) => print_applied(b"count", name, out),
+        Aggregate::Min(name, _) => print_applied(b"min", name, out),
+        Aggregate::Max(name, _) => print_applied(b"max", name, out),
+        Aggregate::Sum { value, key, .. } => print_sum(value, key, out),
+    }
+}
+
 fn print_target(target: &Target, out: &mut Vec<u8>) -> Result<(), NoMemory>
     ensures { IfOk result (λ _. out.new.items
         ≡ out.old.items ++ target_text (target_of target.now)) }
@@ -73,6 +107,7 @@ fn print_target(target: &Target, out: &mut Vec<u8>) -> Result<(), NoMemory>
     match target {
         Target::Plain(operand) => operand.print(ANY_VERSION, out),
         Target::Made(term) => term.print(ANY_VERSION, out),
+        Target::Summed(aggregate, _) => print_aggregate(aggregate, out),
     }
 }
 

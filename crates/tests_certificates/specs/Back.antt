@@ -1,7 +1,7 @@
 -- One use after another, back from a term.
 use Rattle.std.specs.Prelude.{ℕ, ◌&&◌, List, Option, Some, None}
 use Rattle.std.specs.Prelude.{if◌then◌else◌}
-use Rattle.query_spec.specs.Query.{Condition, SkolemTerm, Target, plain, made}
+use Rattle.query_spec.specs.Query.{Condition, SkolemTerm, Target, plain, made, summed}
 use Rattle.site_spec.specs.Site.{Scope}
 use Rattle.constraint_spec.specs.Placed.{PlacedLink, links_of}
 use Rattle.constraint_spec.specs.Use.{LinkUse, source_of, target_of}
@@ -13,6 +13,7 @@ use Rattle.constraint_recheck.specs.Recheck.{link_at, is_use}
 abbrev pub made_term : Target → Option SkolemTerm
 made_term (plain o) = None
 made_term (made t) = Some t
+made_term (summed a) = None
 
 -- the source of the use of this link, if it is a use and ends at the term
 abbrev pub back_on : Tests → ℕ → List Condition → LinkUse → SkolemTerm → PlacedLink

@@ -126,7 +126,7 @@ pub fn is_renamed(
         (a_term (term_of term.now))) }
 {
     match target {
-        Target::Plain(_) => Ok(false),
+        Target::Plain(_) | Target::Summed(_, _) => Ok(false),
         Target::Made(made) => {
             let made = renamed_term(alloc, variables, names, made)?;
             Ok(same_terms(&made, term))

@@ -55,7 +55,7 @@ fn has_end(link: &QueryLink, function: Option<&Str>) -> bool
     match function {
         None => true,
         Some(function) => match &link.link.target {
-            Target::Plain(_) => false,
+            Target::Plain(_) | Target::Summed(_, _) => false,
             Target::Made(term) => term.function == *function,
         },
     }
@@ -93,7 +93,7 @@ fn source_of(alloc: Global, link: &QueryLink, names: &[Str]) -> Result<Option<Sk
         (placed_link link.now) names.now) (placed_link link.now).link.source)) }
 {
     match &link.link.source {
-        Target::Plain(_) => Ok(None),
+        Target::Plain(_) | Target::Summed(_, _) => Ok(None),
         Target::Made(term) => {
             let term = renamed_term(alloc, variables_of(link), names, term)?;
             Ok(Some(term))

@@ -44,7 +44,7 @@ fn push_target(alloc: Global, found: &mut Vec<Claim>, target: &Target) -> Result
         ≡ found.old.items ++ target_claims (target_written target.now)) }
 {
     match target {
-        Target::Plain(_) => Ok(()),
+        Target::Plain(_) | Target::Summed(_, _) => Ok(()),
         Target::Made(term) => {
             let function = term.function.copy(alloc)?;
             push(found, Asked::Linked(function), term.span.start)

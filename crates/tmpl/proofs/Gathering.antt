@@ -8,7 +8,7 @@ use Rattle.tmpl.specs.declared.Choice as choices
 use Rattle.tmpl.specs.declared.Repeat as repeats
 use Rattle.tmpl.specs.declared.uses.ExprUse.{ExprUse}
 use Rattle.tmpl.specs.Body.{Body, done, part_before, row_body, body_of}
-use Rattle.tmpl.specs.Expressions.{Use, uses, use_of, part_uses, key_words, AddsUses}
+use Rattle.tmpl.specs.Expressions.{Use, uses, use_of, part_uses, bare_use, test_uses, key_words, AddsUses}
 use Rattle.tmpl.proofs.Bodies.{choice_body, repeat_body}
 
 pub adds_none : (r : List ExprUse) → AddsUses r r []
@@ -22,12 +22,12 @@ pub part_first : (p : Part) (rest : Body) → uses (part_before p rest) ≡ part
 part_first (Text t) rest = refl
 part_first (Format f) rest = refl
 part_first (Count x) rest = refl
-part_first (Choice' negated x against m taken n other) rest =
-    let u : Use = record { expr = x; onward = []; embeds = false } in
+part_first (Choice' negated x test m taken n other) rest =
+    let own : List Use = test_uses x test in
     let inner : List Use = uses (row_body taken) ++ uses (row_body other) in
-    ap (λ (l : List Use). u ∷ (l ++ uses rest)) (sym (append-nil inner))
+    ap (λ (l : List Use). own ++ (l ++ uses rest)) (sym (append-nil inner)) ∙ sym (append_assoc own (inner ++ []) (uses rest))
 part_first (Repeat' number x o n body) rest =
-    let u : Use = record { expr = x; onward = key_words o.key; embeds = false } in
+    let u : Use = record { expr = x; onward = key_words o.keys; embeds = false } in
     ap (λ (l : List Use). u ∷ (l ++ uses rest)) (sym (append-nil (uses (row_body body))))
 
 body_push : (ps : List Part) (p : Part) → uses (body_of (ps ++ p ∷ [])) ≡ uses (body_of ps) ++ part_uses p
@@ -54,16 +54,12 @@ pub adds_all : (ps : List Part) (i : ℕ) (a b : List ExprUse) → length ps ≤
 adds_all ps i a b le h = subst (λ l. AddsUses a b (uses (body_of l))) (take_all i ps le) h
 
 -- a choice and a loop
-choice_uses : (x : choices.Choice) → part_uses (variants.Choice x) ≡ record {
-  expr = x.values;
-  onward = [];
-  embeds =
-      false;
-} ∷ (uses (body_of x.taken.items) ++ uses (body_of x.other.items) ++ [])
+choice_uses : (x : choices.Choice) → part_uses (variants.Choice x)
+    ≡ test_uses x.values x.test ++ (uses (body_of x.taken.items) ++ uses (body_of x.other.items) ++ [])
 choice_uses x = ap uses (choice_body x done)
 
 repeat_uses : (x : repeats.Repeat) → part_uses (variants.Repeat x) ≡ record
-    { expr = x.values; onward = key_words x.order.key; embeds = false } ∷ (uses (body_of x.body.items) ++ [])
+    { expr = x.values; onward = key_words x.order.keys; embeds = false } ∷ (uses (body_of x.body.items) ++ [])
 repeat_uses x = ap uses (repeat_body x done)
 
 pub ok_then : {X E : Type 0} (r : Result X E) (P Q : X → Type 0) → IfOk r P → ((x : X) → P x → Q x) → IfOk r Q
@@ -72,22 +68,22 @@ ok_then (Err e) P Q h to = h
 
 -- a choice: its expression, and then its two bodies
 pub choice_adds : (x : choices.Choice) (a b c d : List ExprUse)
-    → AddsUses a b (record { expr = x.values; onward = []; embeds = false } ∷ [])
+    → AddsUses a b (test_uses x.values x.test)
     → AddsUses b c (uses (body_of x.taken.items)) → AddsUses c d (uses (body_of x.other.items))
     → AddsUses a d (part_uses (variants.Choice x))
 choice_adds x a b c d h k m =
-    let u : Use = record { expr = x.values; onward = []; embeds = false } in
+    let own : List Use = test_uses x.values x.test in
     let inner : List Use = uses (body_of x.taken.items) ++ uses (body_of x.other.items) in
-    let whole : AddsUses a d (u ∷ inner) = adds_then a b d (u ∷ []) inner h
+    let whole : AddsUses a d (own ++ inner) = adds_then a b d own inner h
     (adds_then b c d (uses (body_of x.taken.items)) (uses (body_of x.other.items)) k m) in
-    subst (AddsUses a d) (ap (λ (l : List Use). u ∷ l) (sym (append-nil inner)) ∙ sym (choice_uses x)) whole
+    subst (AddsUses a d) (ap (λ (l : List Use). own ++ l) (sym (append-nil inner)) ∙ sym (choice_uses x)) whole
 
 pub repeat_adds : (x : repeats.Repeat) (a b c : List ExprUse) → AddsUses a b
-    (record { expr = x.values; onward = key_words x.order.key; embeds = false } ∷ [])
+    (record { expr = x.values; onward = key_words x.order.keys; embeds = false } ∷ [])
     → AddsUses b c (uses (body_of x.body.items))
     → AddsUses a c (part_uses (variants.Repeat x))
 repeat_adds x a b c h k =
-    let u : Use = record { expr = x.values; onward = key_words x.order.key; embeds = false } in
+    let u : Use = record { expr = x.values; onward = key_words x.order.keys; embeds = false } in
     let whole : AddsUses a c (u ∷ uses (body_of x.body.items)) = adds_then a b c (u ∷ []) (uses (body_of x.body.items))
     h k in
     subst (AddsUses a c) (ap (λ (l : List Use). u ∷ l) (sym (append-nil (uses (body_of x.body.items))))

@@ -5,7 +5,8 @@ ghost use Rattle.std.specs.Prelude.{All, ◌≡◌, ◌<◌, length};
 
 mod uses;
 
-use sd_value::{Str, Value};
+use sd_value::{NoMemory, Str, Value};
+use std::alloc::Global;
 use std::marker::Model;
 pub use uses::{ExprUse, uses_of};
 
@@ -49,11 +50,66 @@ pub struct Expr {
     pub word: Word,
 }
 
-/// How the values of an expression are put in order, by a key if one is given, how many of them
-/// are taken, all without a limit, and which text is between two of them.
+/// A KEY: the word that finds a value's key, whether a text counts as it is folded, and whether the
+/// greatest comes first.
+#[derive(Drop)]
+pub struct SortKey {
+    pub word: Word,
+    pub fold: bool,
+    pub descend: bool,
+}
+
+/// The KEYs of a tag, in order.
+#[derive(Drop)]
+pub struct SortKeys {
+    list: Vec<SortKey>,
+}
+
+impl Model for SortKeys {
+    ghost use Rattle.std.specs.Prelude.{List};
+    ghost use Rattle.tmpl.specs.declared.SortKey.{SortKey};
+
+    ghost Value = { List SortKey };
+
+    ghost view = { λ k. k.list.items };
+}
+
+impl SortKeys {
+    ghost use Rattle.std.specs.Prelude.{◌≡◌, ◌++◌, ◌∷◌, [], OnOk};
+
+    /// No key. It takes no memory.
+    pub fn none(alloc: Global) -> SortKeys
+        ensures { result ≡ [] }
+    {
+        SortKeys {
+            list: Vec::new(alloc),
+        }
+    }
+
+    /// Puts a key after the others.
+    /// # Errors
+    /// Out of memory.
+    pub fn push(&mut self, key: SortKey) -> Result<(), NoMemory>
+        ensures { OnOk result (self.new ≡ self.old ++ key ∷ []) }
+    {
+        self.list.push(key)?;
+        Ok(())
+    }
+
+    /// The keys in their order.
+    pub fn list(&self) -> &[SortKey]
+        ensures { result.now ≡ self.now }
+    {
+        self.list.as_slice()
+    }
+}
+
+/// How the values of an expression are put in order, by their keys and at last by value, whether
+/// the whole order is turned round, how many of them are taken, all without a limit, and which text
+/// is between two of them.
 #[derive(Drop)]
 pub struct Order {
-    pub key: Option<Word>,
+    pub keys: SortKeys,
     pub descend: bool,
     pub limit: Option<usize>,
     pub delimiter: Option<Str>,
@@ -113,6 +169,26 @@ pub struct Against {
     pub constant: Value,
 }
 
+/// What a choice compares the number of its expression's values with.
+#[derive(Drop)]
+pub struct Number {
+    pub compare: Cmp,
+    pub constant: i64,
+}
+
+/// What a choice asks of the values of its expression.
+#[derive(Drop)]
+pub enum Test {
+    /// Whether there is one.
+    Any,
+    /// Whether one of them compares so.
+    Compares(Against),
+    /// Whether their number compares so.
+    Counts(Number),
+    /// Whether one of them is a value of this expression too.
+    Same(Expr),
+}
+
 /// A stretch of text, values shown, how many values there are, a choice of two bodies, or a body
 /// for each value.
 #[cycle(part)]
@@ -131,7 +207,7 @@ pub enum Part {
 pub struct Choice {
     pub negated: bool,
     pub values: Expr,
-    pub against: Option<Against>,
+    pub test: Test,
     pub taken: Vec<Part>,
     pub other: Vec<Part>,
 }

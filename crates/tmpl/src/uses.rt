@@ -2,24 +2,24 @@
 
 ghost use Rattle.std.specs.Prelude.{◌≡◌, ◌++◌, [], ◌∷◌, IfOk, map, option_copied, false};
 ghost use Rattle.tmpl.specs.Body.{body_of};
-ghost use Rattle.tmpl.specs.Expressions.{uses, use_of, part_uses, key_words, link_words, is_embed, AddsUses};
+ghost use Rattle.tmpl.specs.Expressions.{uses, use_of, part_uses, bare_use, test_uses, key_words, label_words, link_words, is_embed, AddsUses};
 
-use crate::{Expr, Format, Mode, Part, Word};
+use crate::{Expr, Format, Mode, Part, SortKey, Test, Word};
 use sd_value::NoMemory;
 use std::alloc::Global;
 
-/// An expression of a body, the words that begin at each of its values, which are those of a KEY
+/// An expression of a body, the words that begin at each of its values, which are those of its KEYs
 /// and of a LINK, and whether the values are embedded.
 #[derive(Drop)]
 pub struct ExprUse<'a> {
     pub values: &'a Expr,
-    pub key: Option<&'a Word>,
+    pub keys: &'a [SortKey],
     pub label: Option<&'a Word>,
     pub embeds: bool,
 }
 
 fn label_of(mode: &Mode) -> Option<&Word>
-    ensures { key_words (option_copied result) ≡ link_words mode.now }
+    ensures { label_words (option_copied result) ≡ link_words mode.now }
 {
     match mode {
         Mode::Written(_) | Mode::Embed | Mode::Labelled(_) => None,
@@ -40,13 +40,13 @@ fn push_format<'a>(found: &mut Vec<ExprUse<'a>>, format: &'a Format) -> Result<(
     ensures { IfOk result (λ _. AddsUses found.old.items found.new.items
         (record {
           expr = format.now.values;
-          onward = key_words format.now.order.key ++ link_words format.now.mode;
+          onward = key_words format.now.order.keys ++ link_words format.now.mode;
           embeds = is_embed format.now.mode;
         } ∷ [])) }
 {
     found.push(ExprUse {
         values: &format.values,
-        key: format.order.key.as_ref(),
+        keys: format.order.keys.list(),
         label: label_of(&format.mode),
         embeds: is_embed(&format.mode),
     })?;
@@ -57,22 +57,38 @@ fn push_format<'a>(found: &mut Vec<ExprUse<'a>>, format: &'a Format) -> Result<(
 fn push_values<'a>(
     found: &mut Vec<ExprUse<'a>>,
     values: &'a Expr,
-    key: Option<&'a Word>,
+    keys: &'a [SortKey],
 ) -> Result<(), NoMemory>
     ensures { IfOk result (λ _. AddsUses found.old.items found.new.items
         (record {
           expr = values.now;
-          onward = key_words (option_copied key.entry);
+          onward = key_words keys.now;
           embeds = false;
         } ∷ [])) }
 {
     found.push(ExprUse {
         values,
-        key,
+        keys,
         label: None,
         embeds: false,
     })?;
     Ok(())
+}
+
+// The expressions of a choice.
+fn push_test<'a>(
+    found: &mut Vec<ExprUse<'a>>,
+    values: &'a Expr,
+    test: &'a Test,
+) -> Result<(), NoMemory>
+    ensures { IfOk result (λ _. AddsUses found.old.items found.new.items
+        (test_uses values.now test.now)) }
+{
+    push_values(found, values, &[])?;
+    match test {
+        Test::Any | Test::Compares(_) | Test::Counts(_) => Ok(()),
+        Test::Same(other) => push_values(found, other, &[]),
+    }
 }
 
 #[cycle(push_uses)]
@@ -93,14 +109,14 @@ fn push_part<'a>(found: &mut Vec<ExprUse<'a>>, part: &'a Part) -> Result<(), NoM
     match part {
         Part::Text(_) => Ok(()),
         Part::Format(format) => push_format(found, format),
-        Part::Count(values) => push_values(found, values, None),
+        Part::Count(values) => push_values(found, values, &[]),
         Part::Choice(choice) => {
-            push_values(found, &choice.values, None)?;
+            push_test(found, &choice.values, &choice.test)?;
             push_uses(found, choice.taken.as_slice())?;
             push_uses(found, choice.other.as_slice())
         }
         Part::Repeat(repeat) => {
-            push_values(found, &repeat.values, repeat.order.key.as_ref())?;
+            push_values(found, &repeat.values, repeat.order.keys.list())?;
             push_uses(found, repeat.body.as_slice())
         }
     }

@@ -1,6 +1,6 @@
-use Rattle.std.proofs.Common.{◌∷◌, [], false, Option, List, sym, subst}
+use Rattle.std.proofs.Common.{◌∷◌, [], false, List, sym, subst}
 use Rattle.tmpl.specs.declared.Part.{Part}
-use Rattle.sd_value.specs.Names.{Word}
+use Rattle.tmpl.specs.declared.SortKey.{SortKey}
 use Rattle.tmpl.specs.Body.{body_of}
 use Rattle.tmpl.specs.Expressions.{uses, part_uses, key_words, AddsUses}
 use Rattle.tmpl.proofs.Gathering.{adds_more, ok_then, choice_adds, repeat_adds}
@@ -15,14 +15,14 @@ pub push_part-returns-in_ok-push_uses-in-Choice : goal.push_part-returns-in_ok-p
 push_part-returns-in_ok-push_uses-in-Choice t c =
     let x = c.in-Choice.choice in
     let a = c.args.found.now.items in
-    let b = c.push_values-in-Choice.new.found.items in
+    let b = c.push_test.new.found.items in
     let m = c.push_uses.new.found.items in
     let d = c.push_uses-in-Choice.new.found.items in
     let first : AddsUses b m (uses (body_of x.taken.items)) = subst (λ (l : List Part). AddsUses b m (uses (body_of l)))
     c.as_slice.ensures.value c.in_ok-push_uses-in-Choice.ensures in
     ok_then c.push_uses-in-Choice.result _ _ c.push_uses-in-Choice.ensures
     (λ u h. subst (λ (p : Part). AddsUses a d (part_uses p)) (sym c.in-Choice.is)
-    (choice_adds x a b m d c.in_ok-push_values-in-Choice.ensures first
+    (choice_adds x a b m d c.in_ok-push_test-in-Choice.ensures first
     (subst (λ (l : List Part). AddsUses m d (uses (body_of l))) c.as_slice-in-Choice.ensures.value h)))
 
 pub push_part-returns-in_ok-push_values-in-Repeat :
@@ -34,6 +34,6 @@ push_part-returns-in_ok-push_values-in-Repeat t c =
     let d = c.push_uses-in-Repeat.new.found.items in
     ok_then c.push_uses-in-Repeat.result _ _ c.push_uses-in-Repeat.ensures
     (λ u h. subst (λ (p : Part). AddsUses a d (part_uses p)) (sym c.in-Repeat.is)
-    (repeat_adds x a b d (subst (λ (k : Option Word). AddsUses a b (record { expr = x.values; onward = key_words k; embeds = false } ∷ []))
-    c.as_ref.ensures.value c.in_ok-push_values-in-Repeat.ensures)
+    (repeat_adds x a b d (subst (λ (k : List SortKey). AddsUses a b (record { expr = x.values; onward = key_words k; embeds = false } ∷ []))
+    c.list.ensures c.in_ok-push_values-in-Repeat.ensures)
     (subst (λ (l : List Part). AddsUses b d (uses (body_of l))) c.as_slice-in-Repeat.ensures.value h)))

@@ -1,6 +1,6 @@
 use Rattle.std.proofs.Common.{◌∙◌, ap, refl, take}
 use Rattle.sd_value.specs.Members.{among_at}
-use Rattle.graph_order.specs.Keys.{lesser, key_cmp}
+use Rattle.sort_keys.specs.Keys.{lesser, key_cmp}
 use Rattle.graph_order.proofs.Keyed.{least_next, least_to}
 use Rattle.graph_order.proofs.keys.Known.least.Goals as goal
 

@@ -5,7 +5,7 @@ use Rattle.sd_value.specs.Order.{bytes_cmp}
 use Rattle.graph_spec.specs.DataGraph.{node}
 use Rattle.edge_queries.specs.Listed.{placed-name}
 use Rattle.graph_order.specs.Keys.{key_by}
-use Rattle.graph_order.specs.declared.key.Key.{Key}
+use Rattle.sort_keys.specs.declared.key.Key.{Key}
 use Rattle.graph_order.proofs.Ends.{found_at, not_missed}
 use Rattle.graph_order.proofs.keys.Known.of_node.Goals as goal
 

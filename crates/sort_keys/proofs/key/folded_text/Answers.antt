@@ -1,7 +1,7 @@
 use Rattle.std.proofs.Common.{◌≡◌, List, ℕ, IfOk, ap, ◌∙◌, subst}
 use Rattle.function_spec.specs.Folding.{fold}
-use Rattle.graph_order.proofs.Folds.{folded_utf8, not_folded}
-use Rattle.graph_order.proofs.key.folded_text.Goals as goal
+use Rattle.sort_keys.proofs.Folds.{folded_utf8, not_folded}
+use Rattle.sort_keys.proofs.key.folded_text.Goals as goal
 
 pub returns-in_ok-folded-in-Ok-2 : goal.returns-in_ok-folded-in-Ok-2
 returns-in_ok-folded-in-Ok-2 c =

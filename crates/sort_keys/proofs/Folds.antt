@@ -3,7 +3,7 @@ use Rattle.std.proofs.Common.{◌≡◌, List, ℕ, true, false, refl}
 use Rattle.std.specs.Str.{IsUtf8, is_utf8}
 use Rattle.std.proofs.lemmas.Str.{IsUtf8-from_is_utf8, is_utf8-from_IsUtf8}
 use Rattle.function_spec.specs.Folding.{fold}
-use Rattle.graph_order.specs.Read.{folded_text}
+use Rattle.key_spec.specs.Keys.{folded_text}
 
 pub folded_utf8 : (s t : List ℕ) → IsUtf8 s → t ≡ fold s → t ≡ folded_text s
 folded_utf8 s t u e = rw (is_utf8-from_IsUtf8 s u) e

@@ -1,7 +1,7 @@
-// A value as ORDER compares it.
+// A value as a key compares it.
 ghost use Rattle.std.specs.Prelude.{◌≡◌, IfOk};
-ghost use Rattle.graph_order.specs.Keys.{stands_at, key_of, key_cmp, lesser};
-ghost use Rattle.graph_order.specs.Read.{folded_text};
+ghost use Rattle.sort_keys.specs.Keys.{stands_at, key_of, key_cmp, lesser};
+ghost use Rattle.key_spec.specs.Keys.{folded_text};
 
 use sd_value::{Datum, NoMemory, Str, Value, copy};
 use std::alloc::Global;
@@ -10,7 +10,7 @@ use text_functions::fold;
 
 /// A value, and where it stands among others. A text is folded once, when its key is made.
 #[derive(Debug, Drop)]
-pub(crate) struct Key {
+pub struct Key {
     stands: Value,
     value: Value,
 }
@@ -44,7 +44,7 @@ fn stands_at(alloc: Global, by_fold: bool, value: &Value) -> Result<Value, NoMem
 
 impl Key {
     /// The key of a value.
-    pub(crate) fn of(alloc: Global, by_fold: bool, value: &Value) -> Result<Key, NoMemory>
+    pub fn of(alloc: Global, by_fold: bool, value: &Value) -> Result<Key, NoMemory>
         ensures { IfOk result (λ k. k ≡ key_of by_fold value.now) }
     {
         let stands = stands_at(alloc, by_fold, value)?;
@@ -53,7 +53,7 @@ impl Key {
     }
 
     /// An equal key.
-    pub(crate) fn copy(&self, alloc: Global) -> Result<Key, NoMemory>
+    pub fn copy(&self, alloc: Global) -> Result<Key, NoMemory>
         ensures { IfOk result (λ k. k ≡ self.now) }
     {
         let stands = copy(alloc, &self.stands)?;
@@ -61,8 +61,15 @@ impl Key {
         Ok(Key { stands, value })
     }
 
+    /// Where the value stands, and the value.
+    pub fn into_parts(self) -> (Value, Value)
+        ensures { (result.0 ≡ self.stands) × (result.1 ≡ self.value) }
+    {
+        (self.stands, self.value)
+    }
+
     /// By where they stand, ties by value. The values are compared only then, since most keys differ before.
-    pub(crate) fn compare(&self, other: &Key) -> Ordering
+    pub fn compare(&self, other: &Key) -> Ordering
         ensures { result ≡ key_cmp self.now other.now }
     {
         match self.stands.cmp(&other.stands) {
@@ -74,7 +81,7 @@ impl Key {
 }
 
 /// The lesser of two keys, the first of two that tie.
-pub(crate) fn lesser(first: Option<Key>, second: Option<Key>) -> Option<Key>
+pub fn lesser(first: Option<Key>, second: Option<Key>) -> Option<Key>
     ensures { result ≡ lesser key_cmp first second }
 {
     match (first, second) {
