@@ -2,10 +2,10 @@
 ghost use Rattle.command_lint.specs.Asks.{AskedTaken, ItemsTaken};
 
 use lint_spec::Claim;
+use query_reader::OrderedChecked;
 use sd_value::Str;
 use site_inputs::{Fault, take_checked, take_item_templates, take_items, take_written};
 use std::alloc::Global;
-use struql_check::Checked;
 use template_items::Item;
 use text_claims::claims_of_query;
 use tmpl::Templates;
@@ -13,7 +13,7 @@ use tmpl::Templates;
 /// A checked query, and all that its text asks for.
 #[derive(Drop)]
 pub(crate) struct AskedQuery {
-    pub checked: Checked,
+    pub read: OrderedChecked,
     pub asked: Vec<Claim>,
 }
 
@@ -24,9 +24,9 @@ pub(crate) fn take_asked(alloc: Global, path: &Str, bytes: &[u8]) -> Result<Aske
     ensures { AskedTaken path.now bytes.now result }
 {
     let written = take_written(alloc, path, bytes)?;
-    let asked = claims_of_query(alloc, &written)?;
-    let checked = take_checked(alloc, path, written)?;
-    Ok(AskedQuery { checked, asked })
+    let asked = claims_of_query(alloc, &written.query)?;
+    let read = take_checked(alloc, path, written)?;
+    Ok(AskedQuery { read, asked })
 }
 
 /// Templates, and the items of their text.

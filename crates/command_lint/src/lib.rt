@@ -21,7 +21,7 @@ use edge_io::Files;
 pub use laws::reports_are_decided;
 use run_report::Report;
 use sd_value::Str;
-use site_inputs::{Fault, load_graph, read_file};
+use site_inputs::{Fault, load_graph, read_file, take_over};
 use std::alloc::Global;
 
 /// What a query and its templates ask for and isn't there, over the data: a line for each finding, those in the query
@@ -48,8 +48,17 @@ pub fn lint<F: Files>(
     let graph = load_graph(alloc, files, sources)?;
     let query_bytes = read_file(alloc, files, query_path, TEXT_LIMIT)?;
     let query = take_asked(alloc, query_path, query_bytes.bytes())?;
+    let over = take_over(alloc, query_path, graph, query.read)?;
     let template_bytes = read_file(alloc, files, templates_path, TEXT_LIMIT)?;
     let templates = take_item_text(alloc, templates_path, template_bytes.bytes())?;
-    let report = report_of(alloc, graph, query_path, &query, templates_path, &templates)?;
+    let report = report_of(
+        alloc,
+        over.graph,
+        query_path,
+        &over.query,
+        &query.asked,
+        templates_path,
+        &templates,
+    )?;
     Ok(report)
 }

@@ -9,18 +9,19 @@ ghost use Rattle.command_lint.specs.Lines.{finding_line};
 ghost use Rattle.command_lint.specs.Asks.{Asks};
 ghost use Rattle.command_lint.specs.Ends.{IsLintReport, texts_of};
 
-use crate::asked::{AskedQuery, ItemTemplates};
+use crate::asked::ItemTemplates;
 use crate::lines::push_lines;
 use crate::link_answers::QueryLinks;
 use bindings::StoreAsker;
 use index_store::IndexStore;
-use lint_spec::Finding;
+use lint_spec::{Claim, Finding};
 use query_scoping::scopes;
 use run_report::Report;
 use sd_graph::Graph;
 use sd_value::{NoMemory, Str};
 use site_lint::{LintedSite, blocks_without_rows, findings_of, has_active_end, is_note, names_of};
 use std::alloc::Global;
+use struql_check::Checked;
 use text_claims::{claims_of_templates, further_labels};
 
 // Whether each of the findings is a note.
@@ -60,21 +61,22 @@ pub(crate) fn report_of(
     alloc: Global,
     graph: Graph,
     query_path: &Str,
-    query: &AskedQuery,
+    query: &Checked,
+    asked: &[Claim],
     templates_path: &Str,
     text: &ItemTemplates,
 ) -> Result<Report, NoMemory>
     requires { All (EndsWithin text_end) text.now.items.items }
-    ensures { (bytes template_bytes : List ℕ) → Asks bytes query.now.asked.items
+    ensures { (bytes template_bytes : List ℕ) → Asks bytes asked.now
         → AreItems template_bytes text.now.items.items → IfOk result (λ r.
-        IsLintReport graph query.now.checked (file_of text.now.templates)
+        IsLintReport graph query.now (file_of text.now.templates)
         (texts_of query_path.now bytes templates_path.now template_bytes)
         r.text r.passed) }
 {
     let items = text.items.as_slice();
     let further = further_labels(alloc, items)?;
     let has_active_end = has_active_end(alloc, graph.edges())?;
-    let scopes = scopes(alloc, &query.checked)?;
+    let scopes = scopes(alloc, query)?;
     let store = IndexStore::of(alloc, graph)?;
     let mut asker = StoreAsker::of(store);
     let without_rows = blocks_without_rows(alloc, &mut asker, &scopes)?;
@@ -90,7 +92,7 @@ pub(crate) fn report_of(
         without_rows: &without_rows,
         has_active_end,
     };
-    let in_query = findings_of(alloc, &site, &query.asked)?;
+    let in_query = findings_of(alloc, &site, asked)?;
     let asked = claims_of_templates(alloc, items)?;
     let in_templates = findings_of(alloc, &site, &asked)?;
     report(alloc, query_path, &in_query, templates_path, &in_templates)

@@ -1,7 +1,7 @@
 -- Which texts spell edits, and what an edit makes of the data of a run.
 use Rattle.std.specs.Prelude.{ℕ, nat_le, ◌+◌, ◌&&◌, Bool, false, List, length, Option, Some, None, if◌then◌else◌}
 use Rattle.graph_spec.specs.DataGraph.{DataGraph}
-use Rattle.query_spec.specs.Query as plain
+use Rattle.made_data.specs.Making.{Making, is_plain}
 use Rattle.command_spec.specs.Limits.{data_limit, node_limit, edge_limit}
 use Rattle.edit_spec.specs.declared.Edit.{Edit}
 use Rattle.edit_spec.specs.Edited.{IsOfData}
@@ -19,10 +19,9 @@ pub record EditReader : Type 0 where
   pub edit_in : List ℕ → Option Edit
   pub spells : (text : List ℕ) → IsSpelled text (edit_in text)
 
--- the edit that a text spells; with a first query there are no edits
-abbrev pub edit_under : EditReader → Option plain.Query → List ℕ → Option Edit
-edit_under reader None text = reader.edit_in text
-edit_under reader (Some first) text = None
+-- the edit that a text spells; under a first query or an ORDER there are no edits
+abbrev pub edit_under : EditReader → Making → List ℕ → Option Edit
+edit_under reader making text = if is_plain making then reader.edit_in text else None
 
 -- a graph within the program's limits
 abbrev pub is_small : DataGraph → Bool

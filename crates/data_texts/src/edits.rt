@@ -4,6 +4,7 @@ ghost use Rattle.std.specs.Prelude.{◌≡◌, IfOk, map, not};
 ghost use Rattle.sd_value.specs.declared.Term.{Term as AnyTerm};
 ghost use Rattle.tmpl.specs.Reading.{file_of};
 ghost use Rattle.query_blocks.specs.Blocks.{AreCheckedBlocks, scope_of};
+ghost use Rattle.made_data.specs.Making.{making_of};
 ghost use Rattle.data_texts.specs.Edits.{EditReader, IsSpelled, edit_under};
 ghost use Rattle.data_texts.specs.Touching.{Touching};
 
@@ -11,10 +12,10 @@ use command_spec::DATA_LIMIT;
 use edit_footprint::touches_pages;
 use edit_reader::read_edit;
 use edit_spec::Edit;
+use made_data::Making;
 use query_blocks::QueryBlocks;
 use sd_value::{NoMemory, Str, Term};
 use std::alloc::Global;
-use struql_check::Checked;
 use tmpl::Templates;
 
 /// The edit that a text spells; none where it spells none.
@@ -34,24 +35,19 @@ pub fn edit_in(alloc: Global, text: &Str) -> Result<Option<Edit>, NoMemory>
     }
 }
 
-/// The edit that a text spells, where there is no first query; none where it spells none, and with a first query.
+/// The edit that a text spells, where what is stated is the data; none where it spells none, and under a first query or an
+/// ORDER.
 /// # Errors
 /// Out of memory.
-pub fn read_text_edit(
-    alloc: Global,
-    text: &Str,
-    first: &Option<Checked>,
-) -> Result<Option<Edit>, NoMemory>
+pub fn read_text_edit(alloc: Global, text: &Str, making: &Making) -> Result<Option<Edit>, NoMemory>
     ensures { IfOk result (λ edit. (reader : EditReader)
-        → edit ≡ edit_under reader first.now text.now) }
+        → edit ≡ edit_under reader (making_of making.now) text.now) }
 {
-    match first {
-        None => {
-            let edit = edit_in(alloc, text)?;
-            Ok(edit)
-        }
-        Some(_) => Ok(None),
+    if making.is_plain() {
+        let edit = edit_in(alloc, text)?;
+        return Ok(edit);
     }
+    Ok(None)
 }
 
 /// For each of the terms whether the edit touches nothing on which its page rests.

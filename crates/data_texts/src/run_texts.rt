@@ -1,17 +1,18 @@
 //! Texts of a run: other data, or edits of those that there are.
 
 ghost use Rattle.std.specs.Prelude.{IfOk};
+ghost use Rattle.made_data.specs.Making.{making_of};
 ghost use Rattle.data_texts.specs.RunTexts.{BeginsEdit, IsRunText, AreApart};
 
 use crate::composed::read_text;
 use crate::edits::read_text_edit;
 use command_spec::DATA_LIMIT;
 use edit_spec::Edit;
+use made_data::Making;
 use sd_graph::Graph;
 use sd_lex::{LexRefusal, text_rest, tokens_to_close};
 use sd_value::{NoMemory, Str};
 use std::alloc::Global;
-use struql_check::Checked;
 use token_reader::has_word;
 
 /// What a text of a run is.
@@ -45,18 +46,14 @@ fn begins_edit(alloc: Global, text: &Str) -> Result<bool, NoMemory>
 /// Whether a text makes data or is an edit, by its first token, and then the one or the other of it.
 /// # Errors
 /// Out of memory.
-pub fn read_run_text(
-    alloc: Global,
-    text: &Str,
-    first: &Option<Checked>,
-) -> Result<RunText, NoMemory>
-    ensures { IfOk result (IsRunText first.now text.now) }
+pub fn read_run_text(alloc: Global, text: &Str, making: &Making) -> Result<RunText, NoMemory>
+    ensures { IfOk result (IsRunText (making_of making.now) text.now) }
 {
     if begins_edit(alloc, text)? {
-        let edit = read_text_edit(alloc, text, first)?;
+        let edit = read_text_edit(alloc, text, making)?;
         return Ok(RunText::Other(edit));
     }
-    match read_text(alloc, text, first)? {
+    match read_text(alloc, text, making)? {
         Some(graph) => Ok(RunText::Data(graph)),
         None => Ok(RunText::Other(None)),
     }

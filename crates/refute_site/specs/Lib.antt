@@ -4,3 +4,4 @@ pub mod Links
 pub mod Patterns
 pub mod Refuting
 pub mod Rules
+pub mod Tried

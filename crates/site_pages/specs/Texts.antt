@@ -2,7 +2,7 @@
 use Rattle.std.specs.Prelude.{◌||◌, Bool, false, Option, if◌then◌else◌}
 use Rattle.sd_value.specs.declared.Term.{Term}
 use Rattle.graph_spec.specs.DataGraph.{DataGraph}
-use Rattle.query_spec.specs.Query as plain
+use Rattle.made_data.specs.Making.{Making}
 use Rattle.tmpl.specs.Body.{TemplateFile}
 use Rattle.page_spec.specs.Site.{Site}
 use Rattle.click_time.specs.Page.{PageFixed, page_site}
@@ -12,10 +12,10 @@ use Rattle.data_texts.specs.Touching.{spares}
 use Rattle.site_pages.specs.Rules.{TextRules}
 use Rattle.serving_spec.specs.Changes.{Changes}
 
--- What is current in a run: the data, the query and the templates of its pages, and the first query, if there is one, of
--- whose site the data are the graph.
+-- What is current in a run: the data, the query and the templates of its pages, and what makes the data of what a text
+-- states.
 pub record Current : Type 0 where
-  pub first : Option plain.Query
+  pub making : Making
   pub pages : PageFixed
 
 -- the whole site of the query over the current data
@@ -42,12 +42,12 @@ edit_stays rules current o term =
 abbrev pub data_texts : TextRules → Changes Current
 data_texts rules = record {
   changed = λ current text. over_data current
-      (if (rules.data_readers current.first).accepts text
-      then (rules.data_readers current.first).stated text
-      else edited (edit_under rules.edits current.first text) current.pages.graph);
-  accepts = λ current text. (rules.data_readers current.first).accepts text
-      || is_taken (edit_under rules.edits current.first text) current.pages.graph;
+      (if (rules.data_readers current.making).accepts text
+      then (rules.data_readers current.making).stated text
+      else edited (edit_under rules.edits current.making text) current.pages.graph);
+  accepts = λ current text. (rules.data_readers current.making).accepts text
+      || is_taken (edit_under rules.edits current.making text) current.pages.graph;
   stays = λ current text term.
-      if (rules.data_readers current.first).accepts text then false
-      else edit_stays rules current (edit_under rules.edits current.first text) term;
+      if (rules.data_readers current.making).accepts text then false
+      else edit_stays rules current (edit_under rules.edits current.making text) term;
 }

@@ -5,6 +5,7 @@
 ghost use Rattle.std.specs.Prelude.{◌≡◌, IfOk, false, map};
 ghost use Rattle.tmpl.specs.Reading.{file_of};
 ghost use Rattle.query_blocks.specs.Blocks.{AreCheckedBlocks, scope_of};
+ghost use Rattle.made_data.specs.Making.{making_of};
 ghost use Rattle.site_pages.specs.Rules.{TextRules, the_rules};
 ghost use Rattle.site_pages.specs.Texts.{Current, current_site, current_templates, data_texts};
 
@@ -15,13 +16,13 @@ use data_texts::{RunText, read_run_text, spared};
 use edit_spec::Edit;
 pub use made::PageSource;
 use made::{MadePages, pages_after, pages_over};
+use made_data::Making;
 use page_spec::Outcome;
 use query_blocks::QueryBlocks;
 use sd_graph::{Graph, GraphBuilder, PROGRAM_LIMITS};
 use sd_value::{NoMemory, Str, Term};
 use site_view::Pages;
 use std::alloc::Global;
-use struql_check::Checked;
 use tmpl::Templates;
 use versions::{Changed, Same, Versions};
 
@@ -30,8 +31,8 @@ use versions::{Changed, Same, Versions};
 pub struct SitePages<'q> {
     pages: MadePages<'q>,
     source: PageSource,
-    // Of whose site the data are the graph.
-    first: &'q Option<Checked>,
+    // What makes the data of what a text states.
+    making: &'q Making,
     scopes: &'q QueryBlocks,
     templates: &'q Templates,
 }
@@ -52,18 +53,18 @@ impl<'q> SitePages<'q> {
     ghost use Rattle.tmpl.specs.Reading.{file_of};
     ghost use Rattle.query_blocks.specs.Blocks.{AreCheckedBlocks, scope_of};
 
-    /// The pages over these data. With a first query, texts make the graph of its site.
+    /// The pages over these data. Texts make what this makes of what they state.
     pub fn of(
         alloc: Global,
         graph: Graph,
-        first: &'q Option<Checked>,
+        making: &'q Making,
         scopes: &'q QueryBlocks,
         templates: &'q Templates,
         source: PageSource,
     ) -> Result<SitePages<'q>, NoMemory>
         requires { AreCheckedBlocks scopes.now.version scopes.now.blocks.items }
         ensures state { IfOk result (λ pages. ⟦<SitePages<'q> as Versions>⟧.state pages ≡ record {
-          first = first.now;
+          making = making_of making.now;
           pages = record {
             graph = graph;
             scope = scope_of scopes.now;
@@ -76,7 +77,7 @@ impl<'q> SitePages<'q> {
         Ok(SitePages {
             pages,
             source,
-            first,
+            making,
             scopes,
             templates,
         })
@@ -105,6 +106,7 @@ impl<'q> SitePages<'q> {
     ghost use Rattle.std.specs.Prelude.{◌≡◌, ◌↔◌, false, IfOk, IfSome, Some};
     ghost use Rattle.edit_spec.specs.Edited.{IsOfData};
     ghost use Rattle.data_texts.specs.Edits.{edited, is_taken};
+    ghost use Rattle.made_data.specs.Making.{making_of};
     ghost use Rattle.site_pages.specs.Rules.{the_rules};
     ghost use Rattle.versions.specs.Changes.{TellsEach};
     ghost use Rattle.site_pages.specs.Texts.{edit_stays, over_data};
@@ -187,7 +189,7 @@ impl<'q> Versions for SitePages<'q> {
     ghost Cache = { Unit {0} };
 
     ghost state = { λ s. record {
-      first = s.first.now;
+      making = making_of s.making.now;
       pages = ⟦<MadePages<'q> as Pages>⟧.fixed s.pages;
     } };
 
@@ -222,7 +224,7 @@ impl<'q> Versions for SitePages<'q> {
 
     /// A text that states data replaces them all. Any other may be an edit of them.
     fn change(&mut self, alloc: Global, text: &Str, kept: &[Term]) -> Result<Changed, NoMemory> {
-        match read_run_text(alloc, text, self.first)? {
+        match read_run_text(alloc, text, self.making)? {
             RunText::Data(graph) => self.take_data(alloc, graph, kept),
             RunText::Other(edit) => self.take_text_edit(alloc, &edit, kept),
         }

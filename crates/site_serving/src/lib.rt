@@ -72,7 +72,7 @@ fn serve_inputs<W: Wire>(
     let pages = SitePages::of(
         alloc,
         inputs.graph,
-        &inputs.first,
+        &inputs.making,
         &scopes,
         &inputs.templates,
         source,

@@ -2,6 +2,7 @@
 use Rattle.std.specs.Prelude.{List, map}
 use Rattle.order_spec.specs.Order.{Order}
 use Rattle.order_spec.specs.Read.{order_of}
+use Rattle.query_spec.specs.Query as plain
 use Rattle.struql_ast.specs.Written as written
 use Rattle.struql_ast.specs.Written.{query_written}
 use Rattle.struql_orders.specs.declared.OrderedQuery as declared
@@ -10,6 +11,11 @@ use Rattle.struql_orders.specs.declared.OrderedQuery as declared
 pub record OrderedQuery : Type 0 where
   pub orders : List Order
   pub query : written.Query
+
+-- the same without places
+pub record Ordered : Type 0 where
+  pub orders : List Order
+  pub query : plain.Query
 
 -- what the program's is
 abbrev pub ordered_written : declared.OrderedQuery → OrderedQuery

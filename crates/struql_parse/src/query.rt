@@ -442,7 +442,11 @@ fn whole_at(alloc: Global, tokens: &[Token]) -> Result<OrderedQuery, Halt<Token>
 }
 
 /// The query that these tokens spell. The text ends at `text_end`.
-pub fn parse_tokens(alloc: Global, tokens: &[Token], text_end: u64) -> Result<OrderedQuery, ParseRefusal>
+pub fn parse_tokens(
+    alloc: Global,
+    tokens: &[Token],
+    text_end: u64,
+) -> Result<OrderedQuery, ParseRefusal>
     ensures exact { States tokens.now text_end result }
     ensures only { IsOnly tokens.now result }
 {
