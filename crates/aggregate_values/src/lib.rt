@@ -3,7 +3,7 @@
 
 mod numbers;
 mod parts;
-mod told;
+mod telling;
 
 pub use parts::part_target;
-pub use told::told;
+pub use telling::told;

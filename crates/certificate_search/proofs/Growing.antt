@@ -69,6 +69,7 @@ module _ (tests : Tests) (q : Scope) (S : List Condition) where
     where
       other_target : (variables : List Variable) (target : Target) (t : SkolemTerm) → is_of t.function target ≡ false → due_same variables target t [] ≡ false
       other_target variables (plain o) t e = refl
+      other_target variables (summed a) t e = refl
       other_target variables (made m) t e = ap (λ b. b && zip_all (due_arg variables []) m.args t.args) e
 
   source_stays : (e : Reached) (n : Numbered) (seen : List Reached) (s : SkolemTerm) → is_of e.term.function n.link.link.target ≡ false → add_source tests q S e n seen s ≡ seen

@@ -15,11 +15,12 @@ use Rattle.sd_value.specs.declared.Value.{Value}
 use Rattle.sd_value.specs.declared.Value.TheVariants.{Data, Page}
 use Rattle.graph_spec.specs.DataGraph.{DataGraph, IsWellFormed, HasEdge, IsValueOf, IsLabelValueOf}
 use Rattle.query_spec.specs.declared.Variable.{Variable}
-use Rattle.query_spec.specs.Query.{variable, constant, Target, plain, made}
+use Rattle.query_spec.specs.Query.{variable, constant, Target, plain, made, summed}
 use Rattle.query_spec.specs.Mentions.{same_name}
 use Rattle.query_spec.specs.Rows.{value_in, IsInDomain}
 use Rattle.site_spec.specs.Site.{SomeOf, IsTargetUnder, IsNamed, InSite, IsJoined, Linked, IsPut, CollectedBy}
 use Rattle.site_spec.specs.Site.{SiteEdge, terms_of, ends_of, target_terms}
+use Rattle.site_spec.proofs.Sums.{joined_given, IsNoInt, joined_row}
 use Rattle.struql_ast.specs.Reading.{link_of}
 use Rattle.query_blocks.specs.declared.QueryBlocks.{QueryBlocks}
 use Rattle.query_blocks.specs.Blocks.{AreCheckedBlocks, IsNodeWritten, body_of, scope_of}
@@ -64,6 +65,7 @@ node_declared : (G : DataGraph) (variables : List Variable) (row : List Value) (
 node_declared G variables row (plain (variable x)) n d unwritten h = in_row G variables row x n d h
 node_declared G variables row (plain (constant v)) n d unwritten h = absurd
     (unwritten (n, ap (λ (w : Value). plain (constant w)) (some_same v (Data (Node n)) h)))
+node_declared G variables row (summed a) n d unwritten h = absurd h
 node_declared G variables row (made m) n d unwritten h = let e : Data (Node n) ≡ Page h.0 = h.2 in cc
 
 edge_end : (G : DataGraph) → IsWellFormed G → (u : Value) (label : Label) (n : Name) → HasEdge G u label (Data (Node n))
@@ -76,6 +78,9 @@ edge_end G well (Data (Url s)) label n h = absurd h
 edge_end G well (Data (File s)) label n h = absurd h
 edge_end G well (Page p) label n h = absurd h
 
+node_is_no_int : (n : Name) → IsNoInt (Data (Node n))
+node_is_no_int n i e = cc
+
 node_inside : (a b : Name) → Data (Node a) ≡ Data (Node b) → a ≡ b
 node_inside a b h = cc
 
@@ -87,6 +92,7 @@ module _ (graph : DataGraph) (scopes : QueryBlocks) (well : IsWellFormed graph)
       let s = bodies_to (λ c b. SomeOf (IsJoined graph c (Page p) label v) b.links) (scope_of scopes)
       scopes.blocks.items checked refl linked in
       let j = s.holds in
+      let given = joined_given graph s.item.chain (Page p) label v j.item j.holds in
       let start = (checked s.item s.within).sources j.item j.within in
       let written = Contains-map link_of s.item.links.items j.item j.within in
       let ends : Contains (ends_of j.item) start.0 =
@@ -98,10 +104,10 @@ module _ (graph : DataGraph) (scopes : QueryBlocks) (well : IsWellFormed graph)
       (contains_link s.item written.0 start.0 written.2 (subst (λ k. Contains (ends_of k) start.0) (sym written.1)
       ends))
       record {
-        row = j.holds.row;
-        is_row = j.holds.is_row;
-        holds = source_to (value_in s.item.chain.variables j.holds.row) start.0 p j.item.source start.1
-            j.holds.holds.from;
+        row = given.row;
+        is_row = given.is_row;
+        holds = source_to (value_in s.item.chain.variables given.row) start.0 p j.item.source start.1
+            given.holds.0;
       }))
 
   no_link_from : (d : Datum) (label : Label) (v : Value) → Linked graph (scope_of scopes) (Data d) label v → ⊥
@@ -109,9 +115,10 @@ module _ (graph : DataGraph) (scopes : QueryBlocks) (well : IsWellFormed graph)
       let s = bodies_to (λ c b. SomeOf (IsJoined graph c (Data d) label v) b.links) (scope_of scopes)
       scopes.blocks.items checked refl linked in
       let j = s.holds in
+      let given = joined_given graph s.item.chain (Data d) label v j.item j.holds in
       let start = (checked s.item s.within).sources j.item j.within in
-      let from = subst (λ (t : Target). IsTargetUnder (value_in s.item.chain.variables j.holds.row) t (Data d)) start.1
-      j.holds.holds.from in
+      let from = subst (λ (t : Target). IsTargetUnder (value_in s.item.chain.variables given.row) t (Data d)) start.1
+      given.holds.0 in
       let e : Data d ≡ Page from.0 = from.2 in cc
 
   link_from : (p : Term) (label : Label) (v : Value) → SiteEdge graph (scope_of scopes) (Page p) label v
@@ -124,8 +131,11 @@ module _ (graph : DataGraph) (scopes : QueryBlocks) (well : IsWellFormed graph)
       let s = bodies_to (λ c b. SomeOf (IsJoined graph c u label (Data (Node n))) b.links) (scope_of scopes)
       scopes.blocks.items checked refl linked in
       let j = s.holds in
-      node_declared graph s.item.chain.variables j.holds.row j.item.target n j.holds.is_row.in_domain
-      ((checked s.item s.within).no_linked_node j.item j.within) j.holds.holds.to
+      ⊎_elim
+      (λ r. node_declared graph s.item.chain.variables r.row j.item.target n r.is_row.in_domain
+      ((checked s.item s.within).no_linked_node j.item j.within) r.holds.to)
+      (λ o. in_row graph s.item.chain.variables o.row o.name n o.is_row.in_domain o.is)
+      (joined_row graph s.item.chain u label (Data (Node n)) j.item (node_is_no_int n) j.holds)
 
   put_declared : (c n : Name) → CollectedBy graph (scope_of scopes) c (Data (Node n)) → Contains graph.nodes n
   put_declared c n put =

@@ -9,17 +9,18 @@ use Rattle.sd_value.specs.declared.Value.TheVariants.{Data, Page}
 use Rattle.sd_value.specs.declared.Term.{Term}
 use Rattle.sd_value.specs.Members.{Contains-nil, Contains-cons_cases, Contains-here, Contains-flat_map}
 use Rattle.graph_spec.specs.DataGraph.{DataGraph, Name}
-use Rattle.query_spec.specs.Query.{Operand, variable, constant, Condition, SkolemTerm, Target, plain, made, Link}
+use Rattle.query_spec.specs.Query.{Operand, variable, constant, Condition, SkolemTerm, Target, plain, made, summed, Link}
 use Rattle.query_spec.specs.Mentions.{operand_names, variables_of, chain_of}
 use Rattle.query_spec.specs.Holds.{Assignment, operand_value}
 use Rattle.query_spec.specs.Rows.{value_in, IsRow}
-use Rattle.site_spec.specs.Site.{Scope, IsTermUnder, IsTargetUnder, IsLabelUnder, Joins, InSite, Linked}
+use Rattle.site_spec.specs.Site.{Scope, IsTermUnder, IsTargetUnder, IsPerRow, IsLabelUnder, IsJoined, Joins, InSite, Linked}
+use Rattle.site_spec.proofs.Sums.{per_row_joined}
 use Rattle.constraint_spec.specs.declared.Constraint.{Constraint}
 use Rattle.constraint_spec.specs.declared.Constraint.TheVariants.{Reachable, Each, Only, Never, One}
 use Rattle.constraint_spec.specs.Meets.{root_page, IsPageOf, LeadsTo, stays, goes, IsReached, Meets}
 use Rattle.constraint_spec.specs.Placed.{PlacedLink, Mention, links_of, IsNumbered, mentions_of}
-use Rattle.constraint_spec.specs.Use.{LinkUse}
-use Rattle.constraint_spec.specs.Certificate.{Certificate, IsOf, MayCarry, IsUseFrom, ShowsLinkTo, ShowsLink, LeadBack, ShowsReached, target_names, IsSingle, IsCertificate}
+use Rattle.constraint_spec.specs.Use.{LinkUse, naming, rename_term, rename_target}
+use Rattle.constraint_spec.specs.Certificate.{Certificate, IsOf, MayBe, MayCarry, IsUseFrom, ShowsLinkTo, ShowsLink, LeadBack, ShowsReached, target_names, IsSingle, IsCertificate}
 use Rattle.constraint_spec.specs.Checked.{IsChecked}
 use Rattle.constraint_laws.proofs.Names.{zip_at}
 use Rattle.constraint_laws.proofs.Bound.{page_is_made}
@@ -85,6 +86,7 @@ same_term s t m p r h a b =
 
 same_target : (s t : Assignment) (k : Target) (v w : Value) → ((x : Name) → Contains (target_names k) x → s x ≡ t x) → IsTargetUnder s k v → IsTargetUnder t k w → v ≡ w
 same_target s t (plain o) v w h a b = some_is v w (sym a ∙ same_operand s t o h ∙ b)
+same_target s t (summed a) v w h b c = absurd b
 same_target s t (made m) v w h (p, a, e) (r, b, g) = e ∙ ap Page (same_term s t m p r h a b) ∙ sym g
 
 -- what a link joins from one page is determined where its target's variables stand among its source's
@@ -98,6 +100,16 @@ determined_end k s t p l v w m source determined a b =
     same_target s t k.target v w
     (λ x n. same_values s t m.args p.args in_s.args in_t.args x (stands_in m.args x (subst (λ z. Contains (target_names z) x) source (determined x n))))
     a.to b.to
+
+-- a target that is a term is no aggregate
+made_per_row : (h : Name) (t : Target) → IsOf h t → IsPerRow t
+made_per_row h t (m, e, f) = subst IsPerRow (sym e) tt
+
+-- what is renamed to a term is a term of the same function
+renamed_made : (g : Name → Name) (m : SkolemTerm) (t : Target) → rename_target g t ≡ made m → (s : SkolemTerm) × (t ≡ made s) × (s.function ≡ m.function)
+renamed_made g m (plain o) e = cc
+renamed_made g m (made s) e = let same : rename_term g s ≡ m = cc in (s, refl, ap (λ (z : SkolemTerm). z.function) same)
+renamed_made g m (summed a) e = cc
 
 -- ---- the kinds
 
@@ -118,9 +130,9 @@ module _ (q : Scope) (checked : IsChecked q) (G : DataGraph) where
     by_label : IsLabelUnder old k.link.label l
     by_label = subst (λ z. IsLabelUnder old z l) (sym used.label) refl
 
-    links_on : (v : Value) × IsTargetUnder old k.link.target v × Linked G q (Page p) l v
-    links_on =
-        let at = some_target q G checked m.conditions row r u k the_jump in
+    links_on : IsPerRow k.link.target → (v : Value) × IsTargetUnder old k.link.target v × Linked G q (Page p) l v
+    links_on per =
+        let at = some_target q G checked m.conditions row r u k the_jump per in
         (at.0, at.1, joined q G checked m.conditions row r u k the_jump (Page p) l at.0 from_page by_label at.1)
 
   page_of : (s : Assignment) (h : Name) (t : Target) (v : Value) → IsOf h t → IsTargetUnder s t v → IsPageOf h v
@@ -132,7 +144,7 @@ module _ (q : Scope) (checked : IsChecked q) (G : DataGraph) where
   each_holds f l h proofs all p within is =
       let at = named_by q G f p within is in
       let shown = (zip_at (ShowsLinkTo q l h) (mentions_of q f) proofs at.mention all at.within).1 in
-      let end = links_on l at.mention at.row at.is_row p at.named shown.given shown.link shown.is_use in
+      let end = links_on l at.mention at.row at.is_row p at.named shown.given shown.link shown.is_use (made_per_row h shown.link.link.target shown.target) in
       record {
         end = end.0;
         is_linked = end.2;
@@ -142,7 +154,9 @@ module _ (q : Scope) (checked : IsChecked q) (G : DataGraph) where
   only_holds : (f l h : Name) → ((n : ℕ) (k : PlacedLink) → MayCarry q f l n k → IsOf h k.link.target) → Meets G q (Only f l h)
   only_holds f l h all p v is k =
       let at = link_from q G checked f p l v is k in
-      page_of (value_in (variables_of at.link.conditions) at.row) h at.link.link.target v (all at.number at.link at.may) at.joins.to
+      let ends = all at.number at.link at.may in
+      let r = per_row_joined G (chain_of q.version at.link.conditions) (Page p) l v at.link.link (made_per_row h at.link.link.target ends) at.joined in
+      page_of (value_in (variables_of at.link.conditions) r.row) h at.link.link.target v ends r.holds.to
 
   never_holds : (f l : Name) → ((n : ℕ) (k : PlacedLink) → MayCarry q f l n k → ⊥) → Meets G q (Never f l)
   never_holds f l none p v is k = let at = link_from q G checked f p l v is k in none at.number at.link at.may
@@ -157,15 +171,27 @@ module _ (q : Scope) (checked : IsChecked q) (G : DataGraph) where
       let same_a = the_single f l single a.number a.link a.may in
       let same_b = the_single f l single b.number b.link b.may in
       let k = single.link in
-      determined_end k.link (value_in (variables_of k.conditions) a.row) (value_in (variables_of k.conditions) b.row) p l v w single.may.starts.0 single.may.starts.1 single.determined
-      (subst (λ z. Joins (value_in (variables_of z.conditions) a.row) z.link (Page p) l v) same_a a.joins)
-      (subst (λ z. Joins (value_in (variables_of z.conditions) b.row) z.link (Page p) l w) same_b b.joins)
+      let ra = per_row_joined G (chain_of q.version k.conditions) (Page p) l v k.link single.per_row (subst (λ z. IsJoined G (chain_of q.version z.conditions) (Page p) l v z.link) same_a a.joined) in
+      let rb = per_row_joined G (chain_of q.version k.conditions) (Page p) l w k.link single.per_row (subst (λ z. IsJoined G (chain_of q.version z.conditions) (Page p) l w z.link) same_b b.joined) in
+      determined_end k.link (value_in (variables_of k.conditions) ra.row) (value_in (variables_of k.conditions) rb.row) p l v w single.may.starts.0 single.may.starts.1 single.determined ra.holds rb.holds
+
+  -- the link of a use from a mention of f is the one that may carry the label
+  used_single : (f l : Name) (single : IsSingle q f l) (m : Mention) → m.term.function ≡ f → (u : LinkUse) (k : PlacedLink) → IsUseFrom q l m u k → IsPerRow k.link.target
+  used_single f l single m of_f u k used =
+      let source = renamed_made (naming k u.names) m.term k.link.source used.source in
+      let may : MayCarry q f l u.link k = record {
+        numbered = used.is_use.numbered;
+        starts = (source.0, source.1, source.2 ∙ of_f);
+        label = subst (MayBe q.version l k.conditions) (sym used.label) refl;
+      } in
+      subst (λ z. IsPerRow z.link.target) (sym (the_single f l single u.link k may)) single.per_row
 
   one_holds : (f l : Name) (proofs : Certificate) → AllZip (ShowsLink q l) (mentions_of q f) proofs → IsSingle q f l → Meets G q (One f l)
   one_holds f l proofs all single p within is =
       let at = named_by q G f p within is in
       let shown = (zip_at (ShowsLink q l) (mentions_of q f) proofs at.mention all at.within).1 in
-      let end = links_on l at.mention at.row at.is_row p at.named shown.given shown.link shown.is_use in
+      let per = used_single f l single at.mention (sym at.named.function ∙ is) shown.given shown.link shown.is_use in
+      let end = links_on l at.mention at.row at.is_row p at.named shown.given shown.link shown.is_use per in
       record {
         end = end.0;
         is_linked = end.2;

@@ -18,12 +18,12 @@ use Rattle.struql_ast.specs.declared.LinkLabel.TheVariants as labels
 use Rattle.struql_ast.specs.declared.Query as declared_query
 use Rattle.struql_ast.specs.Reading.{operand_of, label_of, query_of}
 use Rattle.struql_ast.specs.Written as written
-use Rattle.struql_ast.specs.Written.{Name, Condition, made, Link, Blocks, no_blocks, block, query_written}
+use Rattle.struql_ast.specs.Written.{Name, Condition, made, summed, Link, Blocks, no_blocks, block, query_written}
 use Rattle.struql_check.specs.declared.mentions.VariableUse.{VariableUse}
 use Rattle.struql_check.specs.declared.mentions.Role.TheVariants.{Label, Other}
-use Rattle.struql_check.specs.declared.faults.Check.TheVariants.{Unbound, NotLabel}
+use Rattle.struql_check.specs.declared.faults.Check.TheVariants.{Unbound, LinkFromData, NotLabel}
 use Rattle.struql_check.specs.Scope.{ScopedBlock, operand_mentions, mentions, term_mentions, target_mentions, label_mentions, link_mentions, collect_mentions, uses, sort_of}
-use Rattle.struql_check.specs.Faults.{IsFaultless}
+use Rattle.struql_check.specs.Faults.{is_plain, IsFaultless}
 use Rattle.struql_check.specs.Parsed.{IsParsed, IsWritable, operand_constants, term_constants, target_constants, link_constants, condition_constants, constants, bodies, bodies_within}
 use Rattle.struql_check.proofs.NameLists.{in_names}
 use Rattle.query_scoping.proofs.Plain.{condition_plain, target_plain, link_plain, clauses_plain, blocks_plain, query_plain, query_same}
@@ -31,7 +31,7 @@ use Rattle.query_scoping.proofs.Placed.{Placed, joined, round_of, placed_within,
 use Rattle.query_scoping.proofs.Sorts.{NoFault, sorted_in}
 use Rattle.query_scoping.proofs.Chains.{name_of, all_names_same, round_joined, any_contains}
 use Rattle.query_scoping.proofs.Whole.{all_safe}
-use Rattle.constraint_spec.specs.Checked.{IsBound, IsBoundTarget, IsBoundLabel, IsBoundLink, IsCheckedBody, IsChecked}
+use Rattle.constraint_spec.specs.Checked.{IsBound, IsBoundTarget, IsBoundEnd, IsBoundLabel, IsBoundLink, IsCheckedBody, IsChecked}
 use Rattle.constraint_prover.proofs.Roles.{arc_named}
 
 -- ---- constants
@@ -60,9 +60,15 @@ module _ (S : List plain.Condition) where
       (bound_args os (λ m h. n m (Contains-append_right (operand_mentions Other o) (flat_map (operand_mentions Other) os) m h))
       (λ v h. w v (Contains-append_right (operand_constants (operand_of o)) (flat_map operand_constants (map operand_of os)) v h)))
 
-  pub bound_target : (t : written.Target) → Named (target_mentions t) → Writable (target_constants (target_plain t)) → IsBoundTarget S (target_plain t)
-  bound_target (written.plain o) n w = bound_operand o n w
-  bound_target (made t) n w = bound_args t.args n w
+  pub bound_source : (t : written.Target) → is_plain t ≡ false → Named (target_mentions t) → Writable (target_constants (target_plain t)) → IsBoundTarget S (target_plain t)
+  bound_source (written.plain o) e n w = bound_operand o n w
+  bound_source (made t) e n w = bound_args t.args n w
+  bound_source (summed a span) e n w = cc
+
+  pub bound_end : (t : written.Target) → Named (target_mentions t) → Writable (target_constants (target_plain t)) → IsBoundEnd S (target_plain t)
+  bound_end (written.plain o) n w = bound_operand o n w
+  bound_end (made t) n w = bound_args t.args n w
+  bound_end (summed a span) n w = tt
 
 -- ---- a block
 
@@ -106,6 +112,10 @@ link_writable b k h all v n =
     All-contains IsWritable (constants b) v all
     (Contains-append_left ((a ++ t) ++ l) c v (Contains-append_right (a ++ t) l v (Contains-flat_mapped link_constants b.links k v h n)))
 
+starts_at_term : (version : ℕ) (p : Placed) → NoFault version p → (k : Link) → Contains p.clauses.links k → (b : Bool) → is_plain k.source ≡ b → is_plain k.source ≡ false
+starts_at_term version p n k h true e = absurd (n LinkFromData k.span.start (inr (inr (inr (inl (k, h, (e, refl)))))))
+starts_at_term version p n k h false e = e
+
 bound_link : (version : ℕ) (p : Placed) → NoFault version p → All IsWritable (constants (clauses_plain p.clauses)) → (k : Link) → Contains p.clauses.links k → IsBoundLink (map condition_plain (joined p.levels)) (link_plain k)
 bound_link version p n all k h =
     let S = map condition_plain (joined p.levels) in
@@ -116,10 +126,11 @@ bound_link version p n all k h =
     let writable = link_writable (clauses_plain p.clauses) (link_plain k) (Contains-mapped link_plain p.clauses.links k h) all in
     let cs = target_constants (target_plain k.source) in
     let ct = target_constants (target_plain k.target) in
+    let starts : is_plain k.source ≡ false = starts_at_term version p n k h (is_plain k.source) refl in
     record {
-      source = bound_target S k.source (λ m i. used_named version p n m (used m (Contains-append_left (s ++ l) t m (Contains-append_left s l m i)))) (λ v i. writable v (Contains-append_left cs ct v i));
+      source = bound_source S k.source starts (λ m i. used_named version p n m (used m (Contains-append_left (s ++ l) t m (Contains-append_left s l m i)))) (λ v i. writable v (Contains-append_left cs ct v i));
       label = bound_label version p n k.label (λ m i. used m (Contains-append_left (s ++ l) t m (Contains-append_right s l m i)));
-      target = bound_target S k.target (λ m i. used_named version p n m (used m (Contains-append_right (s ++ l) t m i))) (λ v i. writable v (Contains-append_right cs ct v i));
+      target = bound_end S k.target (λ m i. used_named version p n m (used m (Contains-append_right (s ++ l) t m i))) (λ v i. writable v (Contains-append_right cs ct v i));
     }
 
 checked_body : (version : ℕ) (p : Placed) → NoFault version p → All IsWritable (constants (clauses_plain p.clauses)) → All IsFlat (body_at p).conditions → IsCheckedBody (body_at p)

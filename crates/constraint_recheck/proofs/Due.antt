@@ -8,7 +8,7 @@ use Rattle.std.proofs.lemmas.List.{length-take-le}
 use Rattle.sd_value.specs.Names.{Name}
 use Rattle.rpe.specs.Regex.{Regex}
 use Rattle.query_spec.specs.declared.Variable.{Variable}
-use Rattle.query_spec.specs.Query.{Operand, Condition, SkolemTerm, Target, plain, made}
+use Rattle.query_spec.specs.Query.{Operand, Condition, SkolemTerm, Target, plain, made, summed}
 use Rattle.query_spec.specs.Mentions.{same_name, operand_names, names, variables_of}
 use Rattle.constraint_spec.specs.Placed.{PlacedLink}
 use Rattle.constraint_spec.specs.Entailed.{IsEntailed}
@@ -79,10 +79,12 @@ module _ (known : Regex → Type 0) (tests : Tests) (are : AreTests known tests)
 
   abbrev End : Target → SkolemTerm → List Name → Type 0
   End (plain o) t ys = ⊥
+  End (summed a) t ys = ⊥
   End (made s) t ys = (s.function ≡ t.function) × AllZip (At ys) s.args t.args
 
   end_decides : (target : Target) (t : SkolemTerm) (ys : List Name) → Decides (due_same variables target t ys) (End target t ys)
   end_decides (plain o) t ys = never (λ h. h)
+  end_decides (summed a) t ys = never (λ h. h)
   end_decides (made s) t ys =
       both (same_name s.function t.function)
       (zip_all (due_arg variables ys) s.args t.args)
@@ -117,6 +119,7 @@ module _ (known : Regex → Type 0) (tests : Tests) (are : AreTests known tests)
 
   end_to : (ys : List Name) → length ys ≡ length variables → (target : Target) (t : SkolemTerm) → ((n : ℕ) → n ≤ length ys → End target t (take n ys)) → rename_target (naming k ys) target ≡ made t
   end_to ys e (plain o) t h = absurd (h 0 (omega arith))
+  end_to ys e (summed a) t h = absurd (h 0 (omega arith))
   end_to ys e (made s) t h =
       let args = args_to ys e s.args t.args (λ n le. (h n le).1) in
       let function = (h 0 (omega arith)).0 in
@@ -124,6 +127,7 @@ module _ (known : Regex → Type 0) (tests : Tests) (are : AreTests known tests)
 
   end_from : (ys : List Name) (target : Target) (t : SkolemTerm) → rename_target (naming k ys) target ≡ made t → (n : ℕ) → n ≤ length ys → End target t (take n ys)
   end_from ys (plain o) t e n le = cc
+  end_from ys (summed a) t e n le = cc
   end_from ys (made s) t e n le =
       let same : rename_term (naming k ys) s ≡ t = cc in
       (ap (λ (z : SkolemTerm). z.function) same, args_from ys s.args t.args (ap (λ (z : SkolemTerm). z.args) same) n le)

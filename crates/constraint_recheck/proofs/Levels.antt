@@ -8,7 +8,7 @@ use Rattle.sd_value.specs.Members.{Contains-nil, Contains-cons_cases, Contains-h
 use Rattle.sd_value.specs.Names.{Name}
 use Rattle.rpe.specs.Regex.{Regex}
 use Rattle.query_spec.specs.declared.Variable.{Variable}
-use Rattle.query_spec.specs.Query.{Operand, variable, constant, Condition, SkolemTerm, Target, plain, made}
+use Rattle.query_spec.specs.Query.{Operand, variable, constant, Condition, SkolemTerm, Target, plain, made, summed}
 use Rattle.query_spec.specs.Mentions.{variables_of}
 use Rattle.site_spec.specs.Site.{Scope}
 use Rattle.constraint_spec.specs.Placed.{PlacedLink, links_of, IsNumbered}
@@ -51,6 +51,7 @@ args_choice targets variables ys h (o ∷ os) =
 pub source_choice : (targets variables : List Variable) (ys : List Name) → Sorts targets variables ys → (target : Target) (s : SkolemTerm)
     → rename_target (name_for variables ys) target ≡ made s → Contains (source_choices targets target) s
 source_choice targets variables ys h (plain o) s e = cc
+source_choice targets variables ys h (summed a) s e = cc
 source_choice targets variables ys h (made t) s e =
     let same : rename_term (name_for variables ys) t ≡ s = cc in
     subst (Contains (source_choices targets (made t))) same

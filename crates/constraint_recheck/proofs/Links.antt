@@ -12,16 +12,17 @@ use Rattle.rpe.specs.Regex.{Regex}
 use Rattle.graph_spec.specs.DataGraph.{Name, text}
 use Rattle.query_spec.specs.declared.Op.TheVariants.{Eq, Ne}
 use Rattle.query_spec.specs.declared.Variable.{Variable}
-use Rattle.query_spec.specs.Query.{variable, constant, Condition, member, path, compare, one_of, kind, negation, SkolemTerm, Target, plain, made, LinkLabel, quoted, label_variable}
+use Rattle.query_spec.specs.Query.{variable, constant, Condition, member, path, compare, one_of, kind, negation, SkolemTerm, Target, plain, made, summed, LinkLabel, quoted, label_variable}
 use Rattle.query_spec.specs.Mentions.{same_name, variables_of}
 use Rattle.constraint_spec.specs.Placed.{PlacedLink, IsNumbered}
 use Rattle.constraint_spec.specs.Entailed.{IsAmong, IsEntailed}
 use Rattle.constraint_spec.specs.Use.{naming, rename, IsUse}
+use Rattle.site_spec.specs.Site.{IsPerRow}
 use Rattle.constraint_spec.specs.Certificate.{IsOtherLabel, IsNotLabel, IsOtherList, Forbids, MayBe, IsOf, target_names}
 use Rattle.constraint_laws.proofs.Names.{by_test}
 use Rattle.query_parts.specs.Same.{same_operand, same_condition}
 use Rattle.constraint_recheck.specs.Entails.{Tests, IsKnown, AreTests, among, fixes, entails}
-use Rattle.constraint_recheck.specs.Recheck.{zip_all, same_sort, is_empty, on_link, link_at, on_made, is_of, is_other_text, is_not_label, is_quoted, is_other_list, forbids, may_be, may_carry, is_variable, is_use, determined}
+use Rattle.constraint_recheck.specs.Recheck.{zip_all, same_sort, is_empty, on_link, link_at, on_made, is_of, is_other_text, is_not_label, is_quoted, is_other_list, forbids, may_be, may_carry, is_variable, is_use, is_per_row, determined}
 use Rattle.query_parts.proofs.Bools.{never, always, as_well, both, either, denied, some, every, every_in}
 use Rattle.query_parts.proofs.Same.{name_decides, operand_decides, condition_decides}
 use Rattle.constraint_recheck.proofs.Entails.{Fixes, fixes_decides, among_decides, entails_decides, known_renamed}
@@ -92,6 +93,7 @@ link_decides f P links d (suc i) =
 
 pub made_decides : (f : SkolemTerm → Bool) (P : SkolemTerm → Type 0) → ((t : SkolemTerm) → Decides (f t) (P t)) → (target : Target) → Decides (on_made f target) ((t : SkolemTerm) × (target ≡ made t) × P t)
 made_decides f P d (plain o) = never (λ h. let e = h.1 in cc)
+made_decides f P d (summed a) = never (λ h. let e = h.1 in cc)
 made_decides f P d (made t) = as_well (f t) (λ p. (t, refl, p)) (λ h. let g = h.1 in let e : t ≡ h.0 = cc in subst P (sym e) h.2) (d t)
 
 pub of_decides : (f : Name) (target : Target) → Decides (is_of f target) (IsOf f target)
@@ -172,9 +174,18 @@ module _ (known : Regex → Type 0) (tests : Tests) (are : AreTests known tests)
       (every_in (λ c. entails tests version S (rename (naming k names) c)) (λ c. IsEntailed version S (rename (naming k names) c)) k.conditions
       (λ c m. entails_decides known tests are version S ks (rename (naming k names) c) (known_renamed known (naming k names) c (All-contains (IsKnown known) k.conditions c kk m)))))
 
-pub determined_decides : (k : PlacedLink) → Decides (determined k) ((x : Name) → Contains (target_names k.link.target) x → Contains (target_names k.link.source) x)
-determined_decides k =
+per_row_decides : (t : Target) → Decides (is_per_row t) (IsPerRow t)
+per_row_decides (plain o) = always tt
+per_row_decides (made t) = always tt
+per_row_decides (summed a) = never (λ h. h)
+
+names_decides : (k : PlacedLink) → Decides (list_all (λ x. list_any (same_name x) (target_names k.link.source)) (target_names k.link.target)) ((x : Name) → Contains (target_names k.link.target) x → Contains (target_names k.link.source) x)
+names_decides k =
     each_decides (λ x. list_any (same_name x) (target_names k.link.source)) (λ x. Contains (target_names k.link.source) x)
     (λ x. as_well (list_any (same_name x) (target_names k.link.source)) (λ h. subst (Contains (target_names k.link.source)) (sym h.2) h.1) (λ m. (x, m, refl))
     (some (same_name x) (λ y. x ≡ y) (name_decides x) (target_names k.link.source)))
     (target_names k.link.target)
+
+pub determined_decides : (k : PlacedLink) → Decides (determined k) (IsPerRow k.link.target × ((x : Name) → Contains (target_names k.link.target) x → Contains (target_names k.link.source) x))
+determined_decides k =
+    both (is_per_row k.link.target) (list_all (λ x. list_any (same_name x) (target_names k.link.source)) (target_names k.link.target)) (per_row_decides k.link.target) (names_decides k)

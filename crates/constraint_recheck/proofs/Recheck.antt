@@ -9,7 +9,7 @@ use Rattle.std.proofs.lemmas.Bool.Decides.{nat_tests}
 use Rattle.graph_spec.specs.DataGraph.{Name}
 use Rattle.query_spec.specs.Query.{Condition, SkolemTerm, made, quoted}
 use Rattle.query_spec.specs.Mentions.{same_name}
-use Rattle.site_spec.specs.Site.{Scope}
+use Rattle.site_spec.specs.Site.{Scope, IsPerRow}
 use Rattle.constraint_spec.specs.declared.Constraint.{Constraint}
 use Rattle.constraint_spec.specs.declared.Constraint.TheVariants.{Reachable, Each, Only, Never, One}
 use Rattle.constraint_spec.specs.Placed.{PlacedLink, Mention, body_links, links_of, body_mentions, all_mentions, mentions_of}
@@ -57,7 +57,7 @@ module _ (known : Regex → Type 0) (tests : Tests) (are : AreTests known tests)
       (λ k. implies (may_carry tests q.version f l k) (good k) (may_decides known tests are q.version f l k) (d k)) (links_of q))
 
   abbrev Determined : PlacedLink → Type 0
-  Determined k = (x : Name) → Contains (target_names k.link.target) x → Contains (target_names k.link.source) x
+  Determined k = IsPerRow k.link.target × ((x : Name) → Contains (target_names k.link.target) x → Contains (target_names k.link.source) x)
 
   pub one_decides : (f l : Name) → Decides (single (may_carry tests q.version f l) determined (links_of q)) (IsSingle q f l)
   one_decides f l =
@@ -67,7 +67,8 @@ module _ (known : Regex → Type 0) (tests : Tests) (are : AreTests known tests)
         link = s.link;
         may = record { numbered = from_number (links_of q) s.number s.link s.there; starts = s.may_link.0; label = s.may_link.1 };
         alone = λ n k may. s.alone n k (to_number (links_of q) n k may.numbered) (may.starts, may.label);
-        determined = s.good_link;
+        per_row = s.good_link.0;
+        determined = s.good_link.1;
       })
       (λ s. record {
         number = s.number;
@@ -75,7 +76,7 @@ module _ (known : Regex → Type 0) (tests : Tests) (are : AreTests known tests)
         there = to_number (links_of q) s.number s.link s.may.numbered;
         may_link = (s.may.starts, s.may.label);
         alone = λ n k there p. s.alone n k (record { numbered = from_number (links_of q) n k there; starts = p.0; label = p.1 });
-        good_link = s.determined;
+        good_link = (s.per_row, s.determined);
       })
       (single_decides (may_carry tests q.version f l) determined (May f l) Determined (may_decides known tests are q.version f l) determined_decides (links_of q) 1)
 

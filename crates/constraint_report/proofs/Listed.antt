@@ -13,6 +13,7 @@ use Rattle.graph_spec.specs.DataGraph.{DataGraph}
 use Rattle.query_spec.specs.Query.{Target, made}
 use Rattle.query_spec.specs.Rows.{value_in}
 use Rattle.site_spec.specs.Site.{SomeOf, IsNamed, InSite, IsJoined, Linked, SiteEdge, terms_of, ends_of, target_terms}
+use Rattle.site_spec.proofs.Sums.{joined_given}
 use Rattle.struql_ast.specs.Reading.{link_of}
 use Rattle.query_blocks.specs.declared.QueryBlocks.{QueryBlocks}
 use Rattle.query_blocks.specs.Blocks.{body_of, scope_of}
@@ -31,6 +32,7 @@ module _ (graph : DataGraph) (scopes : QueryBlocks) (contents : Contents) (whole
   starts_in_site p label v linked =
       let s = bodies_to (λ c b. SomeOf (IsJoined graph c (Page p) label v) b.links) (scope_of scopes) scopes.blocks.items whole.scoped refl linked in
       let j = s.holds in
+      let given = joined_given graph s.item.chain (Page p) label v j.item j.holds in
       let start = (whole.scoped s.item s.within).sources j.item j.within in
       let written = Contains-map link_of s.item.links.items j.item j.within in
       let ends : Contains (ends_of j.item) start.0 =
@@ -41,9 +43,9 @@ module _ (graph : DataGraph) (scopes : QueryBlocks) (contents : Contents) (whole
       (some_from (IsNamed graph s.item.chain p) (terms_of (body_of s.item)) start.0
       (contains_link s.item written.0 start.0 written.2 (subst (λ k. Contains (ends_of k) start.0) (sym written.1) ends))
       record {
-        row = j.holds.row;
-        is_row = j.holds.is_row;
-        holds = source_to (value_in s.item.chain.variables j.holds.row) start.0 p j.item.source start.1 j.holds.holds.from;
+        row = given.row;
+        is_row = given.is_row;
+        holds = source_to (value_in s.item.chain.variables given.row) start.0 p j.item.source start.1 given.holds.0;
       }))
 
   link_from : (p : Term) (label : Label) (v : Value) → SiteEdge graph (scope_of scopes) (Page p) label v → Linked graph (scope_of scopes) (Page p) label v

@@ -7,7 +7,6 @@ use Rattle.sd_value.specs.Names.{Name, Label}
 use Rattle.graph_spec.specs.DataGraph.{text}
 use Rattle.query_spec.specs.declared.Op.TheVariants.{Eq, Ne}
 use Rattle.query_spec.specs.Query.{variable, constant, Condition, compare, one_of, SkolemTerm}
-use Rattle.query_spec.specs.Query.{Aggregate, count_of, min_of, max_of, sum_of}
 use Rattle.query_spec.specs.Query.{Target, plain, made, summed, LinkLabel, quoted, label_variable}
 use Rattle.query_spec.specs.Mentions.{operand_names}
 use Rattle.site_spec.specs.Site.{Scope, IsPerRow}
@@ -59,18 +58,11 @@ pub record MayCarry (q : Scope) (f : Name) (l : Label) (number : ℕ) (k : Place
   pub starts : IsOf f k.link.source
   pub label : MayBe q.version l k.conditions k.link.label
 
--- the names of the variables of an aggregate
-abbrev pub aggregate_names : Aggregate → List Name
-aggregate_names (count_of v) = v ∷ []
-aggregate_names (min_of v) = v ∷ []
-aggregate_names (max_of v) = v ∷ []
-aggregate_names (sum_of v x) = v ∷ x ∷ []
-
--- the names of the variables of a target
+-- the names of the variables of a target; an aggregate has no value of a row
 abbrev pub target_names : Target → List Name
 target_names (plain operand) = operand_names operand
 target_names (made t) = flat_map operand_names t.args
-target_names (summed a) = aggregate_names a
+target_names (summed a) = []
 
 -- exactly one link of f may carry l; it ends at no aggregate, and its target's variables are all
 -- among its source's

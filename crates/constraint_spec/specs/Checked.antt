@@ -18,11 +18,17 @@ IsBound conditions (constant v) = (d : Datum) × (v ≡ Data d)
 abbrev pub IsBoundTerm : List Condition → SkolemTerm → Type 0
 IsBoundTerm conditions t = All (IsBound conditions) t.args
 
--- what the target mentions is bound; nothing is asked of an aggregate
+-- what the target mentions is bound, and it is no aggregate
 abbrev pub IsBoundTarget : List Condition → Target → Type 0
 IsBoundTarget conditions (plain operand) = IsBound conditions operand
 IsBoundTarget conditions (made t) = IsBoundTerm conditions t
-IsBoundTarget conditions (summed a) = Unit {0}
+IsBoundTarget conditions (summed a) = ⊥
+
+-- the same of what a link ends at, but an aggregate is asked for nothing
+abbrev pub IsBoundEnd : List Condition → Target → Type 0
+IsBoundEnd conditions (plain operand) = IsBoundTarget conditions (plain operand)
+IsBoundEnd conditions (made t) = IsBoundTarget conditions (made t)
+IsBoundEnd conditions (summed a) = Unit {0}
 
 -- a variable for a label is between arrows in some condition
 abbrev pub IsBoundLabel : List Condition → LinkLabel → Type 0
@@ -33,7 +39,7 @@ IsBoundLabel conditions (label_variable x) = Contains (flat_map arc_names condit
 pub record IsBoundLink (conditions : List Condition) (k : Link) : Type 0 where
   pub source : IsBoundTarget conditions k.source
   pub label : IsBoundLabel conditions k.label
-  pub target : IsBoundTarget conditions k.target
+  pub target : IsBoundEnd conditions k.target
 
 -- a negation holds no negation, and what links mention is bound
 pub record IsCheckedBody (b : Body) : Type 0 where

@@ -64,6 +64,7 @@ module _ (function : Name) where
   target_says : (target : Target) → Says (is_made_of function target) (SomeOf Names (target_terms target))
   unfolding Names
   target_says (plain operand) = (λ e. cc, λ h. absurd (Contains-nil h.item h.within))
+  target_says (summed a) = (λ e. cc, λ h. absurd (Contains-nil h.item h.within))
   target_says (made t) =
       told_as (same_name t.function function) (t.function ≡ function) (SomeOf Names (t ∷ [])) (same t.function function)
       (λ e. record { item = t; within = Contains-here t []; holds = e })
@@ -111,6 +112,7 @@ module _ (function : Name) where
   made_says : (target : Target) → Says (is_made_of function target) ((s : SkolemTerm) × (target ≡ made s)
       × (s.function ≡ function))
   made_says (plain operand) = (λ e. cc, λ (s, is, f). (let impossible : ⊥ = cc in absurd impossible))
+  made_says (summed a) = (λ e. cc, λ (s, is, f). (let impossible : ⊥ = cc in absurd impossible))
   made_says (made t) = (
     λ e. (t, refl, (same t.function function).0 e),
     λ (s, is, f). (same t.function function).1

@@ -8,7 +8,7 @@ use Rattle.sd_value.specs.declared.Term.{Term}
 use Rattle.graph_spec.specs.DataGraph.{DataGraph, Name}
 use Rattle.query_spec.specs.Query.{Link, Body as Block}
 use Rattle.query_spec.specs.Holds.{Assignment}
-use Rattle.site_spec.specs.Site.{Scope, SomeOf, chain, Joins, InSite, Linked, Collected, SiteEdge}
+use Rattle.site_spec.specs.Site.{Scope, SomeOf, chain, InSite, Linked, Collected, SiteEdge}
 use Rattle.weight_spec.specs.Site.{site_of}
 use Rattle.tmpl.specs.Body.{Body, TemplateFile}
 use Rattle.page_spec.specs.declared.Outcome.{Outcome}
@@ -22,7 +22,7 @@ use Rattle.edit_laws.proofs.Graphs.{has_edge_to, has_edge_from, has_member_to, h
 use Rattle.edit_laws.proofs.Guards.{by_test}
 use Rattle.edit_laws.proofs.Chains.{distinct}
 use Rattle.edit_laws.proofs.Rows.{rows_stay}
-use Rattle.edit_laws.proofs.Sites.{RowsTo, in_site_to, linked_to, collected_to, edge_to, carried, from_function}
+use Rattle.edit_laws.proofs.Sites.{RowsTo, RowsBoth, Starts, in_site_to, linked_to, collected_to, edge_to, carried, from_function}
 use Rattle.page_spec.proofs.Alike.{UsesAlike}
 use Rattle.edit_laws.proofs.Templates.{ReadsTo, use_to, none_embeds}
 use Rattle.edit_laws.proofs.Outcomes.{outcome_to}
@@ -47,23 +47,29 @@ module _ (G H : DataGraph) (e : Edit) (q : Scope) (change : Becomes G e H) where
         (λ b c m. block_from b (spares b c m)),
   )
 
+  pub block_both : (b : Block) → (TouchesChain e (chain q b) → ⊥) → RowsBoth G H q b
+  block_both b spared = (block_to b spared, block_from b spared)
+
+  pub block_back : (b : Block) → (TouchesChain e (chain q b) → ⊥) → RowsBoth H G q b
+  block_back b spared = (block_from b spared, block_to b spared)
+
   -- the link that joins may carry the label
-  by_label_of : (b : Block) (k : Link) → Contains b.links k → (s : Assignment) (u : Value) (l : Name) (v : Value)
-      → Joins s k u l v → HasLinkBy l b
-  by_label_of b k c s u l v j = record { item = k; within = c; holds = carried s k.label l j.by }
+  by_label_of : (b : Block) (k : Link) → Contains b.links k → (s : Assignment) (u : Value) (l : Name)
+      → Starts s k u l → HasLinkBy l b
+  by_label_of b k c s u l j = record { item = k; within = c; holds = carried s k.label l j.1 }
 
   pub links_stay : (l : Name) → Spares e q (HasLinkBy l) → (u v : Value) → Linked G q u l v ↔ Linked H q u l v
   links_stay l spares u v = (
-    linked_to G H q u l v (λ b c k d s j. block_to b (spares b c (by_label_of b k d s u l v j))),
-    linked_to H G q u l v (λ b c k d s j. block_from b (spares b c (by_label_of b k d s u l v j))),
+    linked_to G H q u l v (λ b c k d s j. block_both b (spares b c (by_label_of b k d s u l j))),
+    linked_to H G q u l v (λ b c k d s j. block_back b (spares b c (by_label_of b k d s u l j))),
   )
 
   pub edges_stay : (l : Name) → Spares e q (HasLinkBy l) → (IsOfLabel e l → ⊥) → (u v : Value) → SiteEdge G q u l v ↔
       SiteEdge H q u l v
   edges_stay l spares other u v = (
-    edge_to G H q u l v (λ b c k d s j. block_to b (spares b c (by_label_of b k d s u l v j)))
+    edge_to G H q u l v (λ b c k d s j. block_both b (spares b c (by_label_of b k d s u l j)))
         (has_edge_to G H e change.edited l other u v),
-    edge_to H G q u l v (λ b c k d s j. block_from b (spares b c (by_label_of b k d s u l v j)))
+    edge_to H G q u l v (λ b c k d s j. block_back b (spares b c (by_label_of b k d s u l j)))
         (has_edge_from G H e change.edited l other u v),
   )
 
@@ -80,9 +86,9 @@ module _ (G H : DataGraph) (e : Edit) (q : Scope) (change : Becomes G e H) where
       → SiteEdge G q (Page p) l v → SiteEdge H q (Page p) l v
   page_edge_to p made l spares v =
       edge_to G H q (Page p) l v
-      (λ b c k d s j. block_to b
+      (λ b c k d s j. block_both b
       (spares b c (record
-      { item = k; within = d; holds = (from_function s k p (made b c k d) j.from, carried s k.label l j.by) })))
+      { item = k; within = d; holds = (from_function s k p (made b c k d) j.0, carried s k.label l j.1) })))
       (λ none. absurd none)
 
   page_edge_from : (p : Term) → HasMadeSources q → (l : Name)
@@ -90,9 +96,9 @@ module _ (G H : DataGraph) (e : Edit) (q : Scope) (change : Becomes G e H) where
       → SiteEdge H q (Page p) l v → SiteEdge G q (Page p) l v
   page_edge_from p made l spares v =
       edge_to H G q (Page p) l v
-      (λ b c k d s j. block_from b
+      (λ b c k d s j. block_back b
       (spares b c (record
-      { item = k; within = d; holds = (from_function s k p (made b c k d) j.from, carried s k.label l j.by) })))
+      { item = k; within = d; holds = (from_function s k p (made b c k d) j.0, carried s k.label l j.1) })))
       (λ none. absurd none)
 
 -- ---- what a footprint that isn't touched spares

@@ -8,13 +8,22 @@ use Rattle.graph_spec.specs.DataGraph.{DataGraph, Name, HasEdge, HasMember}
 use Rattle.query_spec.specs.Query.{Target, made, LinkLabel, quoted, label_variable, Link, Body as Block}
 use Rattle.query_spec.specs.Holds.{Assignment}
 use Rattle.query_spec.specs.Rows.{IsRow}
-use Rattle.site_spec.specs.Site.{Scope, SomeOf, chain, terms_of, IsTargetUnder, IsLabelUnder, Joins, InSite, Linked, Collected, SiteEdge}
+use Rattle.site_spec.specs.Site.{Scope, SomeOf, chain, terms_of, IsTargetUnder, IsLabelUnder, InSite, Linked, Collected, SiteEdge}
+use Rattle.site_spec.proofs.Sums.{joined_given, joined_to}
 use Rattle.query_blocks.specs.Blocks.{IsMade}
 use Rattle.edit_spec.specs.Footprint.{MayBeLabelled, IsFrom}
 
 -- each row of the block's chain in G is one in H
 abbrev pub RowsTo : DataGraph → DataGraph → Scope → Block → Type 0
 RowsTo G H q b = (row : List Value) → IsRow G (chain q b) row → IsRow H (chain q b) row
+
+-- the rows of the block's chain are the same in G and in H: what an aggregate tells may change with each row
+abbrev pub RowsBoth : DataGraph → DataGraph → Scope → Block → Type 0
+RowsBoth G H q b = RowsTo G H q b × RowsTo H G q b
+
+-- the link starts at u and has the label under the assignment
+abbrev pub Starts : Assignment → Link → Value → Name → Type 0
+Starts s k u l = IsTargetUnder s k.source u × IsLabelUnder s k.label l
 
 pub in_site_to : (G H : DataGraph) (q : Scope) (p : Term)
     → ((b : Block) → Contains q.bodies b → SomeOf (λ s. s.function ≡ p.function) (terms_of b) → RowsTo G H q b)
@@ -37,26 +46,21 @@ in_site_to G H q p to x =
     }
 
 pub linked_to : (G H : DataGraph) (q : Scope) (u : Value) (l : Name) (v : Value)
-    → ((b : Block) → Contains q.bodies b → (k : Link) → Contains b.links k → (s : Assignment) → Joins s k u l v
-    → RowsTo G H q b)
+    → ((b : Block) → Contains q.bodies b → (k : Link) → Contains b.links k → (s : Assignment) → Starts s k u l
+    → RowsBoth G H q b)
     → Linked G q u l v → Linked H q u l v
-linked_to G H q u l v to x =
+linked_to G H q u l v both x =
     let b = x.item in
     let joined = x.holds in
-    let r = joined.holds in
+    let given = joined_given G (chain q b) u l v joined.item joined.holds in
+    let rows = both b x.within joined.item joined.within _ given.holds in
     record {
       item = b;
       within = x.within;
       holds = record {
         item = joined.item;
         within = joined.within;
-        holds =
-            record {
-              row = r.row;
-              is_row = to b x.within joined.item joined.within _ r.holds r.row r.is_row;
-              holds =
-                  r.holds;
-            };
+        holds = joined_to G H (chain q b) u l v joined.item rows.0 rows.1 joined.holds;
       };
     }
 
@@ -87,8 +91,8 @@ collected_to G H q name v to members (inl x) =
 collected_to G H q name v to members (inr (n, m, is)) = inr (n, members n m, is)
 
 pub edge_to : (G H : DataGraph) (q : Scope) (u : Value) (l : Name) (v : Value)
-    → ((b : Block) → Contains q.bodies b → (k : Link) → Contains b.links k → (s : Assignment) → Joins s k u l v
-    → RowsTo G H q b) → (HasEdge G u l v → HasEdge H u l v)
+    → ((b : Block) → Contains q.bodies b → (k : Link) → Contains b.links k → (s : Assignment) → Starts s k u l
+    → RowsBoth G H q b) → (HasEdge G u l v → HasEdge H u l v)
     → SiteEdge G q u l v → SiteEdge H q u l v
 edge_to G H q u l v to of_data (inl x) = inl (linked_to G H q u l v to x)
 edge_to G H q u l v to of_data (inr x) = inr (of_data x)

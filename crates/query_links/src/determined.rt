@@ -3,12 +3,12 @@
 ghost use Rattle.std.specs.Prelude.{◌≡◌};
 ghost use Rattle.std.specs.List.{list_any, list_all};
 ghost use Rattle.query_spec.specs.Mentions.{same_name, operand_names};
-ghost use Rattle.struql_ast.specs.Reading.{operand_of, aggregate_of, target_of, link_of};
-ghost use Rattle.constraint_spec.specs.Certificate.{aggregate_names, target_names};
+ghost use Rattle.struql_ast.specs.Reading.{operand_of, target_of, link_of};
+ghost use Rattle.constraint_spec.specs.Certificate.{target_names};
 ghost use Rattle.query_links.specs.Links.{has_target_in_source};
 
 use sd_value::Str;
-use struql_ast::{Aggregate, Link, Operand, Target};
+use struql_ast::{Link, Operand, Target};
 
 fn is_variable(operand: &Operand, name: &Str) -> bool
     ensures { result ≡ list_any (same_name name.now) (operand_names (operand_of operand.now)) }
@@ -26,16 +26,6 @@ fn some_variable(args: &[Operand], name: &Str) -> bool
     args.iter().any(|o| is_variable(o, name))
 }
 
-// Whether the variable is one of the aggregate's.
-fn is_summed_of(aggregate: &Aggregate, name: &Str) -> bool
-    ensures { result ≡ list_any (same_name name.now) (aggregate_names (aggregate_of aggregate.now)) }
-{
-    match aggregate {
-        Aggregate::Count(x, _) | Aggregate::Min(x, _) | Aggregate::Max(x, _) => name == x,
-        Aggregate::Sum { value, key, .. } => name == value || name == key,
-    }
-}
-
 // Whether the variable is one of the target's.
 fn has_variable(target: &Target, name: &Str) -> bool
     ensures { result ≡ list_any (same_name name.now) (target_names (target_of target.now)) }
@@ -43,7 +33,7 @@ fn has_variable(target: &Target, name: &Str) -> bool
     match target {
         Target::Plain(operand) => is_variable(operand, name),
         Target::Made(term) => some_variable(&term.args, name),
-        Target::Summed(aggregate, _) => is_summed_of(aggregate, name),
+        Target::Summed(_, _) => false,
     }
 }
 

@@ -13,7 +13,8 @@ use sd_lex::Span;
 use sd_value::{NoMemory, Str, Value, copied_list};
 use std::alloc::Global;
 use struql_ast::{
-    Aggregate, Collect, Condition, Constants, Link, LinkLabel, Operand, PathStep, SkolemTerm, Target,
+    Aggregate, Collect, Condition, Constants, Link, LinkLabel, Operand, PathStep, SkolemTerm,
+    Target,
 };
 
 mod equality;

@@ -1,6 +1,6 @@
 -- Operands, terms, links, collections and conditions of queries.
 use Rattle.std.proofs.Common.{◌∙◌, ◌≡◌, ◌⊎◌, ℕ, ◌+◌, ◌≤◌, List, [], ◌∷◌, ◌++◌, length, arith, ap, sym, refl, subst, inl, inr}
-use Rattle.std.specs.Prelude.{Option, Some, None, map}
+use Rattle.std.specs.Prelude.{Bool, true, false, Option, Some, None, map}
 use Rattle.std.specs.List.{flat_map}
 use Rattle.std.proofs.lemmas.List.{length-append}
 use Rattle.sd_value.specs.declared.Datum.TheVariants as datum
@@ -17,6 +17,7 @@ use Rattle.query_spec.specs.Query as plain
 use Rattle.struql_ast.specs.declared.Operand.{Operand}
 use Rattle.struql_ast.specs.declared.Operand.TheVariants.{Variable, Constant}
 use Rattle.struql_ast.specs.Reading.{operand_of}
+use Rattle.struql_ast.specs.declared.Aggregate.{Aggregate}
 use Rattle.struql_ast.specs.Written as tree
 use Rattle.struql_text.specs.declared.keyword.Keyword.{Keyword}
 use Rattle.struql_text.specs.declared.keyword.Word.{Word}
@@ -24,6 +25,8 @@ use Rattle.struql_text.specs.Terminals.{named, operand_kind_value, operand_value
 use Rattle.struql_text.specs.Expression.{Counted}
 use Rattle.struql_text.specs.Grammar.{operand, term_of, no_arguments, some_arguments, arguments, term, made, variable_of, named_target, source, operand_target, target, link, collect, call_with, call, membership, comparison, path, relation, behind, negated, condition}
 use Rattle.grammar.specs.Grammar.{one}
+use Rattle.struql_text.specs.Terminals.{is_sum}
+use Rattle.struql_text.specs.Grammar.{aggregate_or, called_target, sum_over, sum_term_end, sum_end, sum_target, by_sum, named_end}
 use Rattle.struql_text.specs.Grammar as grammar
 use Rattle.struql_check.specs.Parsed.{IsWritable, operand_constants, condition_constants, term_constants, target_constants, link_constants, target_terms}
 use Rattle.query_scoping.proofs.Plain.{step_plain, condition_plain, term_plain, target_plain, link_plain, collect_plain}
@@ -101,8 +104,45 @@ named_target_good version x tokens t (inr (nil, is)) = subst GoodTarget (sym is)
 source_good : (version : ℕ) → (tokens : List Token) (t : tree.Target) → source version tokens t → GoodTarget t
 source_good version tokens t (front, back, x, split, named_it, rest) = named_target_good version x back t rest
 
+-- ---- what a link ends at
+
+or_good : (o : Option Aggregate) (t : tree.Term) → GoodTerm t → GoodTarget (aggregate_or o t)
+or_good None t good = good
+or_good (Some a) t good = tt
+
+called_good : (version : ℕ) (f : Word) (tokens : List Token) (t : tree.Target) → called_target version f tokens t → GoodTarget t
+called_good version f tokens t (front, back, term, split, phrase, (nil, is)) =
+    subst GoodTarget (sym is) (or_good _ term (arguments_good version f front term phrase))
+
+sum_over_good : (version : ℕ) (f : Word) (v : List ℕ) (v_span : Span) (tokens : List Token) (t : tree.Target) → sum_over version f v v_span tokens t → GoodTarget t
+sum_over_good version f v v_span tokens t (front, back, of, split, keyword, (c, d, x, parts, name, (g, h, close, more, closing, (nil, is)))) = subst GoodTarget (sym is) tt
+
+sum_term_good : (version : ℕ) (f : Word) (first : Operand) → GoodOperand first → (tokens : List Token) (t : tree.Target) → sum_term_end version f first tokens t → GoodTarget t
+sum_term_good version f first good tokens t (inl (front, back, close, split, closing, (nil, is))) = subst GoodTarget (sym is) (args_good (first ∷ []) (good, tt))
+sum_term_good version f first good tokens t (inr (front, back, comma, split, sign, (c, d, args, parts, phrase, (g, h, close, more, closing, (nil, is))))) =
+    subst GoodTarget (sym is) (args_good (first ∷ args) (good, (list_bounded one_each GoodOperand (operand version) (operand_bounded version) c args phrase).1))
+
+sum_end_good : (version : ℕ) (f : Word) (first : Operand) → GoodOperand first → (tokens : List Token) (t : tree.Target) → sum_end version f first tokens t → GoodTarget t
+sum_end_good version f (Variable v span) good tokens t (inl over) = sum_over_good version f v span tokens t over
+sum_end_good version f (Variable v span) good tokens t (inr term) = sum_term_good version f (Variable v span) good tokens t term
+sum_end_good version f (Constant v span) good tokens t term = sum_term_good version f (Constant v span) good tokens t term
+
+sum_good : (version : ℕ) (f : Word) (tokens : List Token) (t : tree.Target) → sum_target version f tokens t → GoodTarget t
+sum_good version f tokens t (front, back, opening, split, sign, inl (c, d, term, parts, (g, h, close, more, closing, (nil2, is2)), (nil, is))) =
+    subst GoodTarget (sym is) (subst GoodTerm (sym is2) tt)
+sum_good version f tokens t (front, back, opening, split, sign, inr (c, d, first, parts, phrase, rest)) =
+    sum_end_good version f first (operand_bounded version c first phrase).1 d t rest
+
+by_sum_good : (version : ℕ) (b : Bool) (f : Word) (tokens : List Token) (t : tree.Target) → by_sum version b f tokens t → GoodTarget t
+by_sum_good version true f tokens t h = sum_good version f tokens t h
+by_sum_good version false f tokens t h = called_good version f tokens t h
+
+named_end_good : (version : ℕ) → (x : Word) (tokens : List Token) (t : tree.Target) → named_end version x tokens t → GoodTarget t
+named_end_good version x tokens t (inl h) = by_sum_good version (is_sum version x.text) x tokens t h
+named_end_good version x tokens t (inr (nil, is)) = subst GoodTarget (sym is) tt
+
 behind_operand : (version : ℕ) → (o : Operand) (tokens : List Token) (t : tree.Target) → GoodOperand o → operand_target version o tokens t → GoodTarget t
-behind_operand version (Variable x span) tokens t good rest = named_target_good version (record { text = x; span = span }) tokens t rest
+behind_operand version (Variable x span) tokens t good rest = named_end_good version (record { text = x; span = span }) tokens t rest
 behind_operand version (Constant v span) tokens t good (nil, is) = subst GoodTarget (sym is) good
 
 target_good : (version : ℕ) → (tokens : List Token) (t : tree.Target) → target version tokens t → GoodTarget t
@@ -111,6 +151,7 @@ target_good version tokens t (front, back, o, split, phrase, rest) = behind_oper
 one_term : (t : plain.Target) → length (target_terms t) ≤ 1
 one_term (plain.plain o) = omega arith
 one_term (plain.made t) = omega arith
+one_term (plain.summed a) = omega arith
 
 -- ---- links and collections
 

@@ -7,14 +7,14 @@ use Rattle.struql_ast.specs.declared.PathStep.{PathStep}
 use Rattle.struql_ast.specs.declared.PathStep.TheVariants.{ArcVariable, Expression}
 use Rattle.struql_ast.specs.declared.SkolemTerm.{SkolemTerm as WrittenTerm}
 use Rattle.struql_ast.specs.declared.Target as declared_target
-use Rattle.struql_ast.specs.declared.Target.TheVariants.{Plain, Made}
+use Rattle.struql_ast.specs.declared.Target.TheVariants.{Plain, Made, Summed}
 use Rattle.struql_ast.specs.declared.Link as declared_link
 use Rattle.struql_ast.specs.declared.Collect as declared_collect
 use Rattle.struql_ast.specs.declared.Block.{Block, Block', Row_of-Block, end_of-Block, more_of-Block}
 use Rattle.struql_ast.specs.declared.Query as declared_query
-use Rattle.struql_ast.specs.Reading.{operand_of, step_of, condition_of, term_of, target_of, label_of, link_of, collect_of, block_onto, row_of_blocks, blocks_of, query_of}
+use Rattle.struql_ast.specs.Reading.{operand_of, step_of, condition_of, term_of, aggregate_of, target_of, label_of, link_of, collect_of, block_onto, row_of_blocks, blocks_of, query_of}
 use Rattle.struql_ast.specs.Written as written
-use Rattle.struql_ast.specs.Written.{arc_variable, expression, member, path, compare, one_of, kind, negation, made, Clauses, Blocks, no_blocks, block, step_written, condition_written, term_written, target_written, link_written, collect_written, block_written, row_written, blocks_written, query_written}
+use Rattle.struql_ast.specs.Written.{arc_variable, expression, member, path, compare, one_of, kind, negation, made, summed, Clauses, Blocks, no_blocks, block, step_written, condition_written, term_written, target_written, link_written, collect_written, block_written, row_written, blocks_written, query_written}
 
 abbrev pub step_plain : written.Step → plain.PathStep
 step_plain (arc_variable x span) = plain.arc_variable x
@@ -34,6 +34,7 @@ term_plain t = record { function = t.function; args = map operand_of t.args }
 abbrev pub target_plain : written.Target → plain.Target
 target_plain (written.plain o) = plain.plain (operand_of o)
 target_plain (made t) = plain.made (term_plain t)
+target_plain (summed a span) = plain.summed (aggregate_of a)
 
 abbrev pub link_plain : written.Link → plain.Link
 link_plain k = record { source = target_plain k.source; label = label_of k.label; target = target_plain k.target }
@@ -72,6 +73,7 @@ condition_same (declared.Not' p c span) = ap plain.negation (condition_same c)
 target_same : (t : declared_target.Target) → target_plain (target_written t) ≡ target_of t
 target_same (Plain o) = refl
 target_same (Made t) = refl
+target_same (Summed a span) = refl
 
 pub link_same : (k : declared_link.Link) → link_plain (link_written k) ≡ link_of k
 link_same k = let s = target_same k.source in let t = target_same k.target in cc

@@ -97,6 +97,7 @@ args_declared vs (operands.Constant v span ∷ os) h = All-cons (IsDeclared vs) 
 
 target_declared : (vs : List Variable) (g : written.Target) (t : plain.SkolemTerm) → Contains (site.target_terms (target_plain g)) t → ((m : VariableUse) → Contains (target_mentions g) m → IsNamed vs m.name) → All (IsDeclared vs) t.args
 target_declared vs (written.plain o) t h u = absurd (Contains-nil t h)
+target_declared vs (written.summed a span) t h u = absurd (Contains-nil t h)
 target_declared vs (made w) t h u =
     ⊎_elim (λ e. subst (λ (s : plain.SkolemTerm). All (IsDeclared vs) s.args) e (args_declared vs w.args u)) (λ k. absurd (Contains-nil t k)) (Contains-cons_cases (term_plain w) [] t h)
 
@@ -149,6 +150,7 @@ source_made version p n k h = by_source k.source refl where
   by_source : (g : written.Target) → k.source ≡ g → IsMade (target_plain g)
   by_source (made t) e = (term_plain t, refl)
   by_source (written.plain o) e = absurd (n LinkFromData k.span.start (inr (inr (inr (inl (k, h, (rw e refl, refl)))))))
+  by_source (written.summed a span) e = absurd (n LinkFromData k.span.start (inr (inr (inr (inl (k, h, (rw e refl, refl)))))))
 
 pub placed_safe : (version : ℕ) (p : Placed) → IsVersion version → NoFault version p → IsKept p.levels → length (chain_conditions p.levels) < 2 ^ 32 → IsSafe version (body_at p)
 placed_safe version p v n k few =

@@ -91,6 +91,7 @@ kept_in_order f old new stable =
 one_row : (f : Name) (t : Target) → IsMade t → is_eq (bytes_cmp (source_function t).name f) ≡ is_made_by f t
 one_row f (made t) h = refl
 one_row f (plain.plain operand) (t, h) = absurd cc
+one_row f (plain.summed a) (t, h) = absurd cc
 
 pub rows_of_function : (version : ℕ) (f : Name) (edges : List spec.SchemaEdge) → ((e : spec.SchemaEdge) → Contains edges e → IsMade e.link.source)
     → rows_from f (map (row version) edges) ≡ map (row version) (filter (starts_at f) edges)

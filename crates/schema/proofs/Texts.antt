@@ -18,6 +18,7 @@ use Rattle.schema.specs.Lines.{end_word, row_line, row_lines, end_name, row_stat
 end_is : (t : Target) → end_word (target_function t) ≡ end_text t
 end_is (plain.plain operand) = refl
 end_is (made t) = refl
+end_is (plain.summed a) = refl
 
 line_is : (version : ℕ) (e : spec.SchemaEdge) → row_line (row version e) ≡ edge_line e
 line_is version e = rw (end_is e.link.target) refl
@@ -25,6 +26,7 @@ line_is version e = rw (end_is e.link.target) refl
 name_is : (t : Target) → end_name (target_function t) ≡ end_node t
 name_is (plain.plain operand) = refl
 name_is (made t) = refl
+name_is (plain.summed a) = refl
 
 statement_is : (version : ℕ) (f : SchemaFunction) (e : spec.SchemaEdge) → row_statement f (row version e) ≡ edge_statement version f e
 statement_is version f e = rw (name_is e.link.target) refl

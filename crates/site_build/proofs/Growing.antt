@@ -77,6 +77,14 @@ gains_three P Q R S a b c d g h k p q r s = record {
   gained = λ x i. ⊎_elim (λ j. k.kept x (h.kept x (g.gained x j))) (λ j. ⊎_elim (λ m. k.kept x (h.gained x m)) (λ m. k.gained x m) j) (s x i);
 }
 
+-- two kinds of givers, one after the other
+pub gains_two : {X : Type 0} (P Q : X → Type 0) (a b c : List X) → Gains P a b → Gains Q b c → Gains (λ x. P x ⊎ Q x) a c
+gains_two P Q a b c g h = record {
+  to = λ x i. ⊎_elim (λ j. ⊎_elim (λ m. inl m) (λ m. inr (inl m)) (g.to x j)) (λ j. inr (inr j)) (h.to x i);
+  kept = λ x i. h.kept x (g.kept x i);
+  gained = λ x s. ⊎_elim (λ j. h.kept x (g.gained x j)) (λ j. h.gained x j) s;
+}
+
 -- from nothing, what is there has P
 pub gained_to : {X : Type 0} (P : X → Type 0) (a b : List X) → a ≡ [] → Gains P a b → (x : X) → Contains b x → P x
 gained_to P a b e g x h = ⊎_elim (λ k. absurd (Contains-nil x (subst (λ (xs : List _). Contains xs x) e k))) (λ p. p) (g.to x h)

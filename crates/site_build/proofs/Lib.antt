@@ -4,6 +4,7 @@ pub mod Written
 pub mod RowReads
 pub mod Under
 pub mod Site
+pub mod Sums
 pub mod Picks
 pub mod RangeLaws
 pub mod Pages

@@ -1,5 +1,5 @@
 -- From the rows of blocks to the relations of the site.
-use Rattle.std.proofs.Common.{◌≡◌, ◌++◌, ℕ, ◌+◌, ◌<◌, List, [], map, length, get_or, take, inl, inr, ⊎_elim, refl, sym, subst}
+use Rattle.std.proofs.Common.{◌≡◌, ◌⊎◌, ◌++◌, ℕ, ◌+◌, ◌<◌, List, [], map, length, get_or, take, inl, inr, ⊎_elim, refl, sym, subst}
 use Rattle.std.specs.Prelude.{Contains, ◌↔◌}
 use Rattle.std.proofs.lemmas.List.Elements.{Contains-append_left, Contains-append_right, Contains-append_cases}
 use Rattle.sd_value.specs.declared.Term.{Term}
@@ -13,14 +13,15 @@ use Rattle.graph_spec.specs.DataGraph.{DataGraph, Name, node, HasMember}
 use Rattle.tmpl.specs.Body.{TemplateFile}
 use Rattle.page_spec.specs.Page.{IsPresent}
 use Rattle.query_spec.specs.declared.Variable.{Variable}
-use Rattle.query_spec.specs.Query.{SkolemTerm, Chain, made}
+use Rattle.query_spec.specs.Query.{SkolemTerm, Chain, Target, plain, made, summed, Link as PlainLink}
 use Rattle.query_spec.specs.Holds.{Assignment}
 use Rattle.query_spec.specs.Rows.{value_in, row_cmp, IsRow}
 use Rattle.struql_ast.specs.declared.SkolemTerm.{SkolemTerm as WrittenTerm}
 use Rattle.struql_ast.specs.declared.Link.{Link}
 use Rattle.struql_ast.specs.declared.Collect.{Collect}
 use Rattle.struql_ast.specs.Reading.{term_of, link_of, collect_of}
-use Rattle.site_spec.specs.Site.{Scope, SomeOf, SomeRow, IsTermUnder, IsTargetUnder, IsNamed, IsJoined, IsPut, InSite, Linked, CollectedBy, Collected, terms_of, ends_of, target_terms}
+use Rattle.site_spec.specs.Site.{Scope, SomeOf, SomeRow, IsTermUnder, IsTargetUnder, IsNamed, IsSum, IsJoined, IsPut, InSite, Linked, CollectedBy, Collected, terms_of, ends_of, target_terms}
+use Rattle.site_spec.proofs.Sums.{joined_given}
 use Rattle.query_blocks.specs.declared.QueryBlock.{QueryBlock}
 use Rattle.query_blocks.specs.Blocks.{body_of, IsCheckedBlock}
 use Rattle.weight_spec.specs.Site.{site_of}
@@ -32,8 +33,8 @@ use Rattle.site_build.specs.declared.ordered.Put.{Put}
 use Rattle.site_build.specs.declared.contents.Made.{Made}
 use Rattle.site_build.specs.Ordered.{joined_cmp, put_cmp}
 use Rattle.site_build.specs.Gains.{Gains}
-use Rattle.site_build.specs.Materialised.{IsJoin, IsPutUnder, BlockAdds, BlocksAdd, IsContents, HasPageTemplate}
-use Rattle.site_build.proofs.Growing.{gains_as, gains_three, gains_next, gains_nil, gained_to}
+use Rattle.site_build.specs.Materialised.{IsJoin, InJoinsOf, IsSumUnder, InSumsOf, IsPutUnder, BlockAdds, BlocksAdd, IsContents, HasPageTemplate}
+use Rattle.site_build.proofs.Growing.{gains_as, gains_two, gains_three, gains_next, gains_nil, gained_to}
 
 -- a relation of two things, at equal ones
 pub at_both : {A B : Type 0} (P : A → B → Type 0) (a c : A) (b d : B) → a ≡ c → b ≡ d → P a b → P c d
@@ -85,11 +86,60 @@ put_to G b p s = record { item = s.item; within = s.within; holds = (s.holds.hol
 put_from : (G : DataGraph) (b : QueryBlock) (p : Put) → BlockPuts G p.collection b p.value → SomeOf (λ k. SomeRow G b.chain (λ s. IsPutUnder (collect_of k) s p)) b.collects.items
 put_from G b p s = record { item = s.item; within = s.within; holds = record { row = s.holds.1.row; is_row = s.holds.1.is_row; holds = (s.holds.0, s.holds.1.holds) } }
 
-abbrev pub InJoinsOf : List (List Value) → QueryBlock → Joined → Type 0
-InJoinsOf rows b j = SomeOf (λ row. SomeOf (λ k. IsJoin (link_of k) (value_in b.chain.variables row) j) b.links.items) rows
-
 abbrev pub InPutsOf : List (List Value) → QueryBlock → Put → Type 0
 InPutsOf rows b p = SomeOf (λ row. SomeOf (λ k. IsPutUnder (collect_of k) (value_in b.chain.variables row) p) b.collects.items) rows
+
+-- ---- links by one row, and by all of them
+
+module _ (G : DataGraph) (c : Chain) (rows : List (List Value)) (exact : ListsExactly row_cmp (IsRow G c) rows) where
+  sum_to : (k : PlainLink) (t : Target) (j : Joined) → IsSumUnder c.variables rows k t j → IsSum G c (Page j.from) j.label j.to k t
+  sum_to k (plain o) j h = h
+  sum_to k (made t) j h = h
+  sum_to k (summed a) j h = record {
+    parts = h.0;
+    all = listed_as h.1
+        (λ w s. record { row = s.item; is_row = exact.sound s.item s.within; holds = s.holds })
+        (λ w r. record { item = r.row; within = exact.complete r.row r.is_row; holds = r.holds });
+    told = h.2;
+  }
+
+  sum_from : (k : PlainLink) (t : Target) (j : Joined) → IsSum G c (Page j.from) j.label j.to k t → IsSumUnder c.variables rows k t j
+  sum_from k (plain o) j h = h
+  sum_from k (made t) j h = h
+  sum_from k (summed a) j h = (
+    h.parts,
+    listed_as h.all
+        (λ w r. record { item = r.row; within = exact.complete r.row r.is_row; holds = r.holds })
+        (λ w s. record { row = s.item; is_row = exact.sound s.item s.within; holds = s.holds }),
+    h.told,
+  )
+
+joins_to : (G : DataGraph) (b : QueryBlock) (rows : List (List Value)) (j : Joined) → ListsExactly row_cmp (IsRow G b.chain) rows → InJoinsOf rows b j ⊎ InSumsOf rows b j → BlockJoins G (Page j.from) j.label b j.to
+joins_to G b rows j exact (inl s) =
+    let t = by_clause G b.chain rows (λ (k : Link) s. IsJoin (link_of k) s j) b.links.items exact s in
+    record { item = t.item; within = t.within; holds = inl t.holds }
+joins_to G b rows j exact (inr s) =
+    record { item = s.item; within = s.within; holds = inr (sum_to G b.chain rows exact (link_of s.item) (link_of s.item).target j s.holds) }
+
+-- by one row or by all
+split : (G : DataGraph) (b : QueryBlock) (rows : List (List Value)) (j : Joined) → ListsExactly row_cmp (IsRow G b.chain) rows → (k : Link) → Contains b.links.items k → IsJoined G b.chain (Page j.from) j.label j.to (link_of k) → InJoinsOf rows b j ⊎ InSumsOf rows b j
+split G b rows j exact k within (inl r) =
+    inl (by_row G b.chain rows (λ (k : Link) s. IsJoin (link_of k) s j) b.links.items exact (record { item = k; within = within; holds = r }))
+split G b rows j exact k within (inr h) =
+    inr (record { item = k; within = within; holds = sum_from G b.chain rows exact (link_of k) (link_of k).target j h })
+
+joins_from : (G : DataGraph) (b : QueryBlock) (rows : List (List Value)) (j : Joined) → ListsExactly row_cmp (IsRow G b.chain) rows → BlockJoins G (Page j.from) j.label b j.to → InJoinsOf rows b j ⊎ InSumsOf rows b j
+joins_from G b rows j exact s = split G b rows j exact s.item s.within s.holds
+
+-- what a block's links gain, with the variables and the links as they are at hand
+pub links_gained : (b : QueryBlock) (rows : List (List Value)) (vs : List Variable) (ks : List Link) (old one new : List Joined) → vs ≡ b.chain.variables → ks ≡ b.links.items
+    → Gains (λ j. SomeOf (λ row. SomeOf (λ k. IsJoin (link_of k) (value_in vs row) j) ks) rows) old one
+    → Gains (λ j. SomeOf (λ k. IsSumUnder vs rows (link_of k) (link_of k).target j) ks) one new
+    → Gains (λ (j : Joined). InJoinsOf rows b j ⊎ InSumsOf rows b j) old new
+links_gained b rows vs ks old one new ev ek g h =
+    gains_two (InJoinsOf rows b) (InSumsOf rows b) old one new
+    (at_both (λ v k. Gains (λ j. SomeOf (λ row. SomeOf (λ l. IsJoin (link_of l) (value_in v row) j) k) rows) old one) vs b.chain.variables ks b.links.items ev ek g)
+    (at_both (λ v k. Gains (λ j. SomeOf (λ l. IsSumUnder v rows (link_of l) (link_of l).target j) k) one new) vs b.chain.variables ks b.links.items ev ek h)
 
 pub terms_of_block : (G : DataGraph) (b : QueryBlock) (rows : List (List Value)) (old new : List Term) → ListsExactly row_cmp (IsRow G b.chain) rows → Gains (InTermsOf rows b) old new → Gains (λ p. SomeOf (IsNamed G b.chain p) (terms_of (body_of b))) old new
 terms_of_block G b rows old new exact g =
@@ -97,11 +147,11 @@ terms_of_block G b rows old new exact g =
     (λ p s. by_clause G b.chain rows (λ (t : SkolemTerm) s. IsTermUnder s t p) (terms_of (body_of b)) exact s)
     (λ p s. by_row G b.chain rows (λ (t : SkolemTerm) s. IsTermUnder s t p) (terms_of (body_of b)) exact s)
 
-pub links_of_block : (G : DataGraph) (b : QueryBlock) (rows : List (List Value)) (old new : List Joined) → ListsExactly row_cmp (IsRow G b.chain) rows → Gains (InJoinsOf rows b) old new → Gains (λ (j : Joined). BlockJoins G (Page j.from) j.label b j.to) old new
+pub links_of_block : (G : DataGraph) (b : QueryBlock) (rows : List (List Value)) (old new : List Joined) → ListsExactly row_cmp (IsRow G b.chain) rows → Gains (λ (j : Joined). InJoinsOf rows b j ⊎ InSumsOf rows b j) old new → Gains (λ (j : Joined). BlockJoins G (Page j.from) j.label b j.to) old new
 links_of_block G b rows old new exact g =
-    gains_as (InJoinsOf rows b) (λ (j : Joined). BlockJoins G (Page j.from) j.label b j.to) old new g
-    (λ j s. by_clause G b.chain rows (λ (k : Link) s. IsJoin (link_of k) s j) b.links.items exact s)
-    (λ j s. by_row G b.chain rows (λ (k : Link) s. IsJoin (link_of k) s j) b.links.items exact s)
+    gains_as (λ (j : Joined). InJoinsOf rows b j ⊎ InSumsOf rows b j) (λ (j : Joined). BlockJoins G (Page j.from) j.label b j.to) old new g
+    (λ j s. joins_to G b rows j exact s)
+    (λ j s. joins_from G b rows j exact s)
 
 pub puts_of_block : (G : DataGraph) (b : QueryBlock) (rows : List (List Value)) (old new : List Put) → ListsExactly row_cmp (IsRow G b.chain) rows → Gains (InPutsOf rows b) old new → Gains (λ (p : Put). BlockPuts G p.collection b p.value) old new
 puts_of_block G b rows old new exact g =
@@ -177,7 +227,8 @@ link_start : (G : DataGraph) (q : Scope) (blocks : List QueryBlock) (u : Value) 
 link_start G q blocks u label v checked e l =
     let s = bodies_to (λ c b. SomeOf (IsJoined G c u label v) b.links) q blocks checked e l in
     let m = (checked s.item s.within).sources s.holds.item s.holds.within in
-    let at : IsTargetUnder (value_in s.item.chain.variables s.holds.holds.row) (made m.0) u = subst (λ x. IsTargetUnder (value_in s.item.chain.variables s.holds.holds.row) x u) m.1 s.holds.holds.holds.from in
+    let given = joined_given G s.item.chain u label v s.holds.item s.holds.holds in
+    let at : IsTargetUnder (value_in s.item.chain.variables given.row) (made m.0) u = subst (λ x. IsTargetUnder (value_in s.item.chain.variables given.row) x u) m.1 given.holds.0 in
     (at.0, at.2)
 
 -- these are the labels of the links

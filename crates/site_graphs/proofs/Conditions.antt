@@ -48,7 +48,7 @@ same_order Greater Greater = yes refl
 
 -- ---- numbers and the texts that spell them
 
-at_most : (a b : ℤ) → Dec (a ≤ℤ b)
+pub at_most : (a b : ℤ) → Dec (a ≤ℤ b)
 at_most a b = by_lt_z b a (λ lt. no (λ le. omega (arith, ints, lt, le))) (λ le. yes le)
 
 from_two : (version : ℕ) → Dec (2 ≤ version)

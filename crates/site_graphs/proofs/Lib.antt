@@ -4,5 +4,6 @@ pub mod Texts
 pub mod Conditions
 pub mod Lists
 pub mod Rows
+pub mod Ascending
 pub mod Sites
 pub mod Graphs

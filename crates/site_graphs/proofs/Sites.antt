@@ -1,7 +1,7 @@
 -- All terms, links and collected values of a query's site.
-use Rattle.std.proofs.Common.{◌≡◌, List, [], ◌∷◌, refl, sym, subst}
-use Rattle.std.specs.Prelude.{Contains, Option, Some, None}
-use Rattle.std.specs.List.{AllZip}
+use Rattle.std.proofs.Common.{◌≡◌, List, [], ◌∷◌, refl, sym, ap, subst}
+use Rattle.std.specs.Prelude.{◌≢◌, ◌-◌, ◌^◌, ℤ, pos, negsuc, length, slice_get, Contains, Option, Some, None}
+use Rattle.std.specs.List.{AllZip, flat_map}
 use Rattle.sd_value.specs.Names.{Name, Label}
 use Rattle.sd_value.specs.declared.Datum.{Datum}
 use Rattle.sd_value.specs.declared.Datum.TheVariants.{Int, Text, Url, File, Node}
@@ -11,13 +11,24 @@ use Rattle.sd_value.specs.declared.Value.TheVariants.{Data, Page}
 use Rattle.graph_spec.specs.DataGraph.{DataGraph, node, text, HasEdge, HasMember}
 use Rattle.graph_spec.specs.declared.Edge.{Edge}
 use Rattle.graph_spec.specs.declared.Member.{Member}
-use Rattle.query_spec.specs.Query.{Operand, SkolemTerm, Target, plain, made, LinkLabel, quoted, label_variable, Link}
+use Rattle.query_spec.specs.Query.{Operand, SkolemTerm, Target, plain, made, summed, LinkLabel, quoted, label_variable, Link}
+use Rattle.query_spec.specs.Query.{Aggregate, count_of, min_of, max_of, sum_of}
 use Rattle.query_spec.specs.Query.{Collect, Body, Chain}
 use Rattle.query_spec.specs.Holds.{Assignment, operand_value}
 use Rattle.query_spec.specs.Rows.{value_in, IsRow}
 use Rattle.site_spec.specs.Site.{Scope, IsTermUnder, IsTargetUnder, IsLabelUnder, Joins, chain, terms_of, SomeOf}
+use Rattle.site_spec.specs.Site.{IsRowJoined, part_link, pair_number, total, IsWord, IsTold, IsSummed, IsSum}
 use Rattle.site_spec.specs.Site.{SomeRow, IsNamed, IsJoined, IsPut, InSite, Linked, CollectedBy, Collected, SiteEdge}
 use Rattle.site_graphs.proofs.Lists.{AllOf, all_none, all_one, all_in, all_as, all_either, all_from}
+use Rattle.sd_value.specs.Ascending.{ListsExactly}
+use Rattle.sd_value.specs.AscendingLaws.{same_list}
+use Rattle.sd_value.specs.Members.{Contains-nil}
+use Rattle.sd_value.specs.Order.{bytes_cmp, value_cmp}
+use Rattle.sd_value.specs.OrderLaws.{bytes_cmp-total, bytes_cmp-exact, value_cmp-total, value_cmp-exact}
+use Rattle.site_spec.proofs.Sums.{first_of}
+use Rattle.site_graphs.proofs.Ascending.{all_ascending}
+use Rattle.site_graphs.proofs.Conditions.{at_most}
+use Rattle.site_graphs.proofs.Decide.{Dec, yes, no, dec_as, dec_both, dec_same}
 use Rattle.site_graphs.proofs.Rows.{all_rows}
 
 -- a value joined to another by a label
@@ -96,6 +107,7 @@ module _ (s : Assignment) where
 
   all_targets : (t : Target) → AllOf (IsTargetUnder s t)
   all_targets (plain o) = all_value (operand_value s o)
+  all_targets (summed a) = all_none (IsTargetUnder s (summed a)) (λ v h. h)
   all_targets (made t) =
       all_from (IsTermUnder s t) (λ (p : Term) (v : Value). v ≡ Page p) (all_terms t)
       (λ p. all_one (Page p) (λ (v : Value). v ≡ Page p) refl (λ v e. sym e))
@@ -136,6 +148,110 @@ module _ (G : DataGraph) where
       (all_from (IsRow G c) (λ row x. P (value_in c.variables row) x) (all_rows G c)
       (λ row. each (value_in c.variables row)))
 
+  -- ---- what aggregates tell
+
+  abbrev ByRows : Chain → Link → Joint → Type 0
+  ByRows c k j = IsRowJoined G c j.from j.label j.to k
+
+  all_by_rows : (c : Chain) (k : Link) → AllOf (ByRows c k)
+  all_by_rows c k = all_under c (λ (s : Assignment) (j : Joint). Joins s k j.from j.label j.to) (λ s. all_joins s k)
+
+  abbrev from_to : Value → Label → Value → Joint
+  from_to u l v = record { from = u; label = l; to = v }
+
+  -- all to which the link leads from here by the label
+  all_ends : (c : Chain) (k : Link) (u : Value) (l : Label) → AllOf (λ (w : Value). IsRowJoined G c u l w k)
+  all_ends c k u l =
+      all_as (λ (w : Value). (j : Joint) × ByRows c k j × (j ≡ from_to u l w)) (λ (w : Value). IsRowJoined G c u l w k)
+      (λ w h. subst (ByRows c k) h.2 h.1) (λ w h. (from_to u l w, h, refl))
+      (all_from (ByRows c k) (λ (j : Joint) (w : Value). j ≡ from_to u l w) (all_by_rows c k)
+      (λ j. by j (dec_both (dec_same value_cmp value_cmp-total value_cmp-exact j.from u)
+      (dec_same bytes_cmp bytes_cmp-total bytes_cmp-exact j.label l))))
+    where
+      by : (j : Joint) → Dec ((j.from ≡ u) × (j.label ≡ l)) → AllOf (λ (w : Value). j ≡ from_to u l w)
+      by j (yes h) = all_one j.to (λ (w : Value). j ≡ from_to u l w)
+          (λ i. record { from = h.0 i; label = h.1 i; to = j.to }) (λ w e. ap (λ (x : Joint). x.to) e)
+      by j (no n) = all_none (λ (w : Value). j ≡ from_to u l w)
+          (λ w e. n (ap (λ (x : Joint). x.from) e, ap (λ (x : Joint). x.label) e))
+
+  dec_empty : (ns : List ℤ) → Dec (ns ≢ [])
+  dec_empty [] = no (λ n. n refl)
+  dec_empty (n ∷ ns) = yes (λ e. cc)
+
+  dec_word : (n : ℤ) → Dec (IsWord n)
+  dec_word n = dec_as (λ h. record { low = h.0; high = h.1 }) (λ h. (h.low, h.high))
+      (dec_both (at_most (negsuc (2 ^ 63 - 1)) n) (at_most n (pos (2 ^ 63 - 1))))
+
+  all_told : (a : Aggregate) (parts : List Value) → AllOf (IsTold a parts)
+  all_told (count_of x) parts =
+      all_one (Data (Int (pos (length parts)))) (IsTold (count_of x) parts) refl (λ v e. sym e)
+  all_told (min_of x) parts = all_value (slice_get parts 0)
+  all_told (max_of x) parts = all_value (slice_get parts (length parts - 1))
+  all_told (sum_of y x) parts = by (dec_both (dec_empty ns) (dec_word (total ns)))
+    where
+      ns : List ℤ
+      ns = flat_map pair_number parts
+
+      by : Dec ((flat_map pair_number parts ≢ []) × IsWord (total (flat_map pair_number parts)))
+          → AllOf (IsTold (sum_of y x) parts)
+      by (yes h) = all_one (Data (Int (total (flat_map pair_number parts)))) (IsTold (sum_of y x) parts)
+          (h.0, h.1, refl) (λ v e. sym e.2)
+      by (no n) = all_none (IsTold (sum_of y x) parts) (λ v e. n (e.0, e.1))
+
+  module _ (c : Chain) (k : Link) (a : Aggregate) where
+    -- the ascending list of what the aggregate looks at in the rows that give these
+    parts_of : (u : Value) (l : Label) → (ps : List Value)
+        × ListsExactly value_cmp (λ (w : Value). IsRowJoined G c u l w (part_link a k)) ps
+    parts_of u l = all_ascending value_cmp value_cmp-total value_cmp-exact
+        (λ (w : Value). IsRowJoined G c u l w (part_link a k)) (all_ends c (part_link a k) u l)
+
+    abbrev Tells : Joint → Joint → Type 0
+    Tells p j = (v : Value) × IsTold a (parts_of p.from p.label).0 v × (from_to p.from p.label v ≡ j)
+
+    not_empty : (ps : List Value) (w : Value) → Contains ps w → ps ≢ []
+    not_empty ps w h e = Contains-nil w (subst (λ (xs : List Value). Contains xs w) e h)
+
+    told_to : (p : Joint) → ByRows c (part_link a k) p → (v : Value) → IsTold a (parts_of p.from p.label).0 v
+        → IsSummed G c p.from p.label v k a
+    told_to p h v told =
+        let parts = parts_of p.from p.label in
+        record {
+          parts = parts.0;
+          all = parts.1;
+          told = record { some = not_empty parts.0 p.to (parts.1.complete p.to h); told = told };
+        }
+
+    told_from : (j : Joint) → IsSummed G c j.from j.label j.to k a
+        → (p : Joint) × ByRows c (part_link a k) p × Tells p j
+    told_from j h =
+        let one = first_of h.parts h.told.some in
+        let parts = parts_of j.from j.label in
+        let same : h.parts ≡ parts.0 = same_list value_cmp-total h.parts parts.0 h.all.ascending parts.1.ascending
+            (λ z i. parts.1.complete z (h.all.sound z i)) (λ z i. h.all.complete z (parts.1.sound z i)) in
+        (from_to j.from j.label one.0, h.all.sound one.0 one.1, (j.to, subst (λ ps. IsTold a ps j.to) same h.told.told, refl))
+
+    all_summed : AllOf (λ (j : Joint). IsSummed G c j.from j.label j.to k a)
+    all_summed =
+        all_as (λ (j : Joint). (p : Joint) × ByRows c (part_link a k) p × Tells p j)
+        (λ (j : Joint). IsSummed G c j.from j.label j.to k a)
+        (λ j h. subst (λ (x : Joint). IsSummed G c x.from x.label x.to k a) h.2.2 (told_to h.0 h.1 h.2.0 h.2.1))
+        told_from
+        (all_from (ByRows c (part_link a k)) Tells (all_by_rows c (part_link a k))
+        (λ p. all_from (IsTold a (parts_of p.from p.label).0) (λ (v : Value) (j : Joint). from_to p.from p.label v ≡ j)
+        (all_told a (parts_of p.from p.label).0)
+        (λ v. all_one (from_to p.from p.label v) (λ (j : Joint). from_to p.from p.label v ≡ j) refl (λ j e. e))))
+
+  all_sums : (c : Chain) (k : Link) (t : Target) → AllOf (λ (j : Joint). IsSum G c j.from j.label j.to k t)
+  all_sums c k (plain o) = all_none (λ (j : Joint). IsSum G c j.from j.label j.to k (plain o)) (λ j h. h)
+  all_sums c k (made t) = all_none (λ (j : Joint). IsSum G c j.from j.label j.to k (made t)) (λ j h. h)
+  all_sums c k (summed a) = all_summed c k a
+
+  all_joined : (c : Chain) (k : Link) → AllOf (λ (j : Joint). IsJoined G c j.from j.label j.to k)
+  all_joined c k = all_either (ByRows c k) (λ (j : Joint). IsSum G c j.from j.label j.to k k.target)
+      (all_by_rows c k) (all_sums c k k.target)
+
+  -- ---- what is collected
+
   abbrev named : Name → Value → Named
   named c v = record { collection = c; value = v }
 
@@ -163,8 +279,7 @@ module _ (G : DataGraph) where
     all_linked =
         all_some (λ (b : Body) (j : Joint). SomeOf (IsJoined G (chain q b) j.from j.label j.to) b.links)
         (λ b. all_some (λ (k : Link) (j : Joint). IsJoined G (chain q b) j.from j.label j.to k)
-        (λ k. all_under (chain q b) (λ (s : Assignment) (j : Joint). Joins s k j.from j.label j.to)
-        (λ s. all_joins s k)) b.links)
+        (λ k. all_joined (chain q b) k) b.links)
         q.bodies
 
     all_collected_by : AllOf (λ (m : Named). CollectedBy G q m.collection m.value)

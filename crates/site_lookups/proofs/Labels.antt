@@ -8,13 +8,13 @@ use Rattle.sd_value.specs.declared.Value.{Value}
 use Rattle.sd_value.specs.declared.Value.TheVariants.{Page}
 use Rattle.graph_spec.specs.DataGraph.{DataGraph, Name, text}
 use Rattle.query_spec.specs.declared.Variable.{Variable}
-use Rattle.query_spec.specs.Query.{SkolemTerm, made, Link, LinkLabel, quoted, label_variable, Chain}
+use Rattle.query_spec.specs.Query.{SkolemTerm, Target, made, Link, LinkLabel, quoted, label_variable, Chain}
 use Rattle.query_spec.specs.Holds.{Assignment}
 use Rattle.query_spec.specs.Rows.{value_in, IsAnswer}
 use Rattle.skolem.specs.Solved.{Solves, HasNone, Adds, Refutes, HasName}
-use Rattle.site_spec.specs.Site.{IsTermUnder, IsLabelUnder, IsJoined}
+use Rattle.site_spec.specs.Site.{IsTermUnder, IsLabelUnder}
 use Rattle.site_lookups.specs.Counts.{IsLinkRow}
-use Rattle.site_lookups.specs.Ends.{IsLabelled, StartsBy}
+use Rattle.site_lookups.specs.Ends.{IsLabelled, StartsBy, LeadsTo}
 use Rattle.site_lookups.proofs.Rows.{row_long, none_case}
 use Rattle.site_lookups.proofs.Targets.{source_to, source_from}
 
@@ -79,9 +79,9 @@ none_solved variables P o e m = subst (λ (x : Option (List (Option Value))). Ma
 pub link_rows : (G : DataGraph) (c : Chain) (k : Link) (p : Term) (label : Name) (bound : List (Option Value)) → Solves c.variables (StartsBy k p label) bound → (row : List Value) → IsAnswer G c bound row → IsLinkRow G c p label k row
 link_rows G c k p label bound s row a = let h = s.to row (row_long G c row a.is_row) a.agrees in (a.is_row, h.0, h.1)
 
-pub none_joined : (G : DataGraph) (c : Chain) (k : Link) (p : Term) (label : Name) (variables : List Variable) (o : Option (List (Option Value))) (ends : List Value) → variables ≡ c.variables → o ≡ None
-    → MatchOption o (HasNone variables (StartsBy k p label)) (λ b. Solves variables (StartsBy k p label) b) → ends ≡ [] → (v : Value) → Contains ends v ↔ IsJoined G c (Page p) label v k
-none_joined G c k p label variables o ends same is m e v = (
+pub none_led_to : (G : DataGraph) (c : Chain) (k : Link) (target : Target) (p : Term) (label : Name) (variables : List Variable) (o : Option (List (Option Value))) (ends : List Value) → variables ≡ c.variables → o ≡ None
+    → MatchOption o (HasNone variables (StartsBy k p label)) (λ b. Solves variables (StartsBy k p label) b) → ends ≡ [] → (v : Value) → Contains ends v ↔ LeadsTo G c p label k target v
+none_led_to G c k target p label variables o ends same is m e v = (
   λ h. absurd (Contains-nil v (subst (λ (l : List Value). Contains l v) e h)),
-  λ j. absurd (none_case G c (StartsBy k p label) variables o same is m record { row = j.row; is_row = j.is_row; holds = (j.holds.from, j.holds.by) }),
+  λ j. absurd (none_case G c (StartsBy k p label) variables o same is m record { row = j.row; is_row = j.is_row; holds = j.holds.0 }),
 )

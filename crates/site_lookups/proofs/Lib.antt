@@ -2,6 +2,7 @@ pub mod Some
 pub mod Rows
 pub mod Blocks
 pub mod Targets
+pub mod Sums
 pub mod Free
 pub mod MemberRows
 pub mod Puts

@@ -13,7 +13,7 @@ use Rattle.sd_value.specs.Members.{Contains-here, Contains-nil, Contains-cons_ca
 use Rattle.sd_value.specs.Gathered.{Gathered}
 use Rattle.graph_spec.specs.DataGraph.{DataGraph, Name}
 use Rattle.query_spec.specs.declared.Variable.{Variable}
-use Rattle.query_spec.specs.Query.{Operand, variable, constant, Target, plain, made, Link, Chain}
+use Rattle.query_spec.specs.Query.{Operand, variable, constant, Target, plain, made, summed, Link, Chain}
 use Rattle.query_spec.specs.Mentions.{operand_names, same_name}
 use Rattle.query_spec.specs.Holds.{Assignment, operand_value}
 use Rattle.query_spec.specs.Rows.{value_in, row_cmp, row_cmp-total, Agrees, IsAnswer}
@@ -24,8 +24,8 @@ use Rattle.asker.specs.Wanted.{wanted_part, ListsSome}
 use Rattle.weight_spec.specs.CountsAtMost.{CountsAtMost}
 use Rattle.weight_spec.proofs.Handing.{distinct_ascending}
 use Rattle.skolem.specs.Solved.{Solves}
-use Rattle.site_spec.specs.Site.{IsTargetUnder, IsJoined, SomeRow}
-use Rattle.site_lookups.specs.Ends.{StartsBy}
+use Rattle.site_spec.specs.Site.{IsTargetUnder, SomeRow}
+use Rattle.site_lookups.specs.Ends.{StartsBy, LeadsTo}
 use Rattle.site_lookups.specs.Wanted.{target_names, Tells}
 use Rattle.site_lookups.proofs.Rows.{row_long}
 use Rattle.site_lookups.proofs.Counts.{counted_within}
@@ -114,6 +114,7 @@ args_moved (o ∷ os) (d ∷ ds) s z h all = (
 
 target_moved : (target : Target) (s z : Assignment) (v : Value) → ((x : Name) → Contains (target_names target) x → s x ≡ z x) → IsTargetUnder s target v → IsTargetUnder z target v
 target_moved (plain o) s z v h u = sym (operand_same o s z h) ∙ u
+target_moved (summed a) s z v h u = absurd u
 target_moved (made t) s z v h u = (u.0, record { function = u.1.function; args = args_moved t.args u.0.args s z h u.1.args }, u.2)
 
 -- the target is the same under rows that have the same values where the flags are set
@@ -144,19 +145,19 @@ targets_told G c target wanted bound rows vs free tells some g v = (
       g.complete w.0 v w.1 (target_told c.variables target wanted s.row w.0 v tells long (row_long G c w.0 (some.sound w.0 w.1).is_row) (sym w.2) s.holds),
 )
 
-pub joined_told : (G : DataGraph) (c : Chain) (k : Link) (p : Term) (label : Name) (wanted : List Bool) (bound : List (Option Value)) (rows : List (List Value)) (ends : List Value)
-    → Solves c.variables (StartsBy k p label) bound → Tells c.variables k.target wanted → ListsSome wanted (IsAnswer G c bound) rows
-    → Gathered (λ (row : List Value) (v : Value). IsTargetUnder (value_in c.variables row) k.target v) rows ends → (v : Value) → Contains ends v ↔ IsJoined G c (Page p) label v k
-joined_told G c k p label wanted bound rows ends s tells some g v = (
+pub led_to_told : (G : DataGraph) (c : Chain) (k : Link) (target : Target) (p : Term) (label : Name) (wanted : List Bool) (bound : List (Option Value)) (rows : List (List Value)) (ends : List Value)
+    → Solves c.variables (StartsBy k p label) bound → Tells c.variables target wanted → ListsSome wanted (IsAnswer G c bound) rows
+    → Gathered (λ (row : List Value) (v : Value). IsTargetUnder (value_in c.variables row) target v) rows ends → (v : Value) → Contains ends v ↔ LeadsTo G c p label k target v
+led_to_told G c k target p label wanted bound rows ends s tells some g v = (
   λ h.
       let r = g.sound v h in
       let a = some.sound r.0 r.1 in
       let starts = s.to r.0 (row_long G c r.0 a.is_row) a.agrees in
-      record { row = r.0; is_row = a.is_row; holds = record { from = starts.0; by = starts.1; to = r.2 } },
+      record { row = r.0; is_row = a.is_row; holds = (starts, r.2) },
   λ j.
       let long = row_long G c j.row j.is_row in
-      let w = some.each j.row (record { is_row = j.is_row; agrees = s.from j.row long (j.holds.from, j.holds.by) }) in
-      g.complete w.0 v w.1 (target_told c.variables k.target wanted j.row w.0 v tells long (row_long G c w.0 (some.sound w.0 w.1).is_row) (sym w.2) j.holds.to),
+      let w = some.each j.row (record { is_row = j.is_row; agrees = s.from j.row long j.holds.0 }) in
+      g.complete w.0 v w.1 (target_told c.variables target wanted j.row w.0 v tells long (row_long G c w.0 (some.sound w.0 w.1).is_row) (sym w.2) j.holds.1),
 )
 
 length_push : {X : Type 0} (xs : List X) (x : X) → length (xs ++ x ∷ []) ≡ length xs + 1

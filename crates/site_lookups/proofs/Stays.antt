@@ -12,12 +12,13 @@ use Rattle.sd_value.specs.declared.Term.{Term}
 use Rattle.sd_value.specs.Members.{Contains-here}
 use Rattle.graph_spec.specs.DataGraph.{DataGraph, Name, HasEdge, IsWellFormed, IsValueOf, IsLabelValueOf}
 use Rattle.query_spec.specs.declared.Variable.{Variable}
-use Rattle.query_spec.specs.Query.{Operand, variable, constant, SkolemTerm, Target, plain, made, Link, Collect, Body}
+use Rattle.query_spec.specs.Query.{Operand, variable, constant, SkolemTerm, Target, plain, made, summed, Link, Collect, Body}
 use Rattle.query_spec.specs.Mentions.{same_name}
 use Rattle.query_spec.specs.Holds.{operand_value}
 use Rattle.query_spec.specs.Rows.{value_in, IsInDomain}
 use Rattle.page_spec.specs.Site.{MayStart}
 use Rattle.site_spec.specs.Site.{Scope, IsTermUnder, IsTargetUnder, IsNamed, InSite, IsJoined, Linked, IsPut, CollectedBy, Collected, SiteEdge, SomeOf, terms_of, ends_of, target_terms}
+use Rattle.site_spec.proofs.Sums.{no_page_in, joined_given, page_joined}
 use Rattle.query_blocks.specs.declared.QueryBlock.{QueryBlock}
 use Rattle.query_blocks.specs.Blocks.{body_of, IsCheckedBlock, IsOfData}
 use Rattle.site_lookups.proofs.Some.{some_from, some_left, some_right, flat_from}
@@ -26,30 +27,8 @@ use Rattle.site_lookups.proofs.Targets.{source_to}
 
 -- ---- the values of a row are data
 
-page_is_no_label : (G : DataGraph) (p : Term) (label : Name) → Page p ≡ Data (Text label) → ⊥
-page_is_no_label G p label e = cc
-
-in_no_domain : (G : DataGraph) (p : Term) (arc : Bool) → MatchBool arc (IsLabelValueOf G (Page p)) (IsValueOf G (Page p)) → ⊥
-in_no_domain G p true h = page_is_no_label G p h.0 h.2
-in_no_domain G p false h = h
-
 some_same : (v w : Value) → Some v ≡ Some w → v ≡ w
 some_same v w e = cc
-
-either_value : (b : Bool) (a : Value) (o : Option Value) (p : Term) → (if b then Some a else o) ≡ Some (Page p) → (a ≡ Page p) ⊎ (o ≡ Some (Page p))
-either_value true a o p e = inl (some_same a (Page p) e)
-either_value false a o p e = inr e
-
-abbrev IsThere : Option Value → Type 0
-IsThere None = ⊥
-IsThere (Some v) = Unit {0}
-
-no_page_in : (G : DataGraph) (variables : List Variable) (row : List Value) (x : Name) (p : Term) → AllZip (IsInDomain G) variables row → value_in variables row x ≡ Some (Page p) → ⊥
-no_page_in G [] row x p d e = subst IsThere (sym e) tt
-no_page_in G (v ∷ variables) [] x p d e = subst IsThere (sym e) tt
-no_page_in G (v ∷ variables) (a ∷ row) x p d e =
-    ⊎_elim (λ h. in_no_domain G p v.arc (subst (IsInDomain G v) h d.0)) (λ h. no_page_in G variables row x p d.1 h)
-    (either_value (same_name v.name x) a (value_in variables row x) p e)
 
 operand_is_data : (G : DataGraph) (variables : List Variable) (row : List Value) (o : Operand) (p : Term) → AllZip (IsInDomain G) variables row → IsOfData (plain o) → operand_value (value_in variables row) o ≡ Some (Page p) → ⊥
 operand_is_data G variables row (variable x) p d n e = no_page_in G variables row x p d e
@@ -59,6 +38,7 @@ operand_is_data G variables row (constant v) p d n e = n p (ap (λ w. plain (con
 target_page : (G : DataGraph) (variables : List Variable) (row : List Value) (t : Target) (p : Term) → AllZip (IsInDomain G) variables row → IsOfData t → IsTargetUnder (value_in variables row) t (Page p)
     → (m : SkolemTerm) × Contains (target_terms t) m × IsTermUnder (value_in variables row) m p
 target_page G variables row (plain o) p d n h = absurd (operand_is_data G variables row o p d n h)
+target_page G variables row (summed a) p d n h = absurd h
 target_page G variables row (made m) p d n h = (m, Contains-here m [], source_to (value_in variables row) m p (made m) refl h)
 
 -- ---- the terms of a body
@@ -94,8 +74,9 @@ linked_page : (G : DataGraph) (q : Scope) (blocks : List QueryBlock) (u : Value)
 linked_page G q blocks u label p checked e l =
     let s = bodies_to (λ c b. SomeOf (IsJoined G c u label (Page p)) b.links) q blocks checked e l in
     let j = s.holds in
-    let t = target_page G s.item.chain.variables j.holds.row j.item.target p j.holds.is_row.in_domain ((checked s.item s.within).targets j.item j.within) j.holds.holds.to in
-    named_in G q blocks s.item t.0 p checked e s.within (link_term (body_of s.item) j.item t.0 j.within t.1) record { row = j.holds.row; is_row = j.holds.is_row; holds = t.2 }
+    let r = page_joined G s.item.chain u label p j.item j.holds in
+    let t = target_page G s.item.chain.variables r.row j.item.target p r.is_row.in_domain ((checked s.item s.within).targets j.item j.within) r.holds.to in
+    named_in G q blocks s.item t.0 p checked e s.within (link_term (body_of s.item) j.item t.0 j.within t.1) record { row = r.row; is_row = r.is_row; holds = t.2 }
 
 put_page : (G : DataGraph) (q : Scope) (blocks : List QueryBlock) (name : Name) (p : Term) → ((b : QueryBlock) → Contains blocks b → IsCheckedBlock q.version b) → q.bodies ≡ map body_of blocks → CollectedBy G q name (Page p) → InSite G q p
 put_page G q blocks name p checked e l =
@@ -131,7 +112,8 @@ no_link : (G : DataGraph) (q : Scope) (blocks : List QueryBlock) (d : Datum) (la
 no_link G q blocks d label v checked e l =
     let s = bodies_to (λ c b. SomeOf (IsJoined G c (Data d) label v) b.links) q blocks checked e l in
     let m = (checked s.item s.within).sources s.holds.item s.holds.within in
-    let at : IsTargetUnder (value_in s.item.chain.variables s.holds.holds.row) (made m.0) (Data d) = subst (λ x. IsTargetUnder (value_in s.item.chain.variables s.holds.holds.row) x (Data d)) m.1 s.holds.holds.holds.from in
+    let given = joined_given G s.item.chain (Data d) label v s.holds.item s.holds.holds in
+    let at : IsTargetUnder (value_in s.item.chain.variables given.row) (made m.0) (Data d) = subst (λ x. IsTargetUnder (value_in s.item.chain.variables given.row) x (Data d)) m.1 given.holds.0 in
     page_is_no_datum d at.0 at.2
 
 pub no_start : (G : DataGraph) (q : Scope) (blocks : List QueryBlock) (u : Value) (label : Name) (v : Value) → ((b : QueryBlock) → Contains blocks b → IsCheckedBlock q.version b) → q.bodies ≡ map body_of blocks → (MayStart u → ⊥) → SiteEdge G q u label v → ⊥

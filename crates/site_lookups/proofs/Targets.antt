@@ -10,6 +10,7 @@ use Rattle.sd_value.specs.OrderLaws.{bytes_cmp-exact, bytes_cmp-total}
 use Rattle.sd_value.specs.Ascending.{ListsExactly}
 use Rattle.graph_spec.specs.DataGraph.{DataGraph, Name, text, HasEdge}
 use Rattle.query_spec.specs.Rows.{value_in}
+use Rattle.site_spec.proofs.Sums.{joined_given}
 use Rattle.struql_ast.specs.Reading.{link_of}
 use Rattle.query_blocks.specs.declared.QueryBlock.{QueryBlock}
 use Rattle.query_blocks.specs.Blocks.{body_of, IsCheckedBlock}
@@ -23,7 +24,7 @@ use Rattle.sd_value.specs.declared.Value.TheVariants.{Data, Page}
 use Rattle.sd_value.specs.declared.Datum.{Datum}
 use Rattle.sd_value.specs.declared.Datum.TheVariants.{Text}
 use Rattle.sd_value.specs.declared.Term.{Term}
-use Rattle.query_spec.specs.Query.{Operand, SkolemTerm, Target, plain, made}
+use Rattle.query_spec.specs.Query.{Operand, SkolemTerm, Target, plain, made, summed}
 use Rattle.query_spec.specs.Holds.{Assignment, operand_value}
 use Rattle.site_spec.specs.Site.{Scope, IsTermUnder, IsTargetUnder, IsJoined, Linked, SiteEdge, SomeOf}
 
@@ -42,6 +43,7 @@ pub term_same : (s : Assignment) (t : SkolemTerm) (p q : Term) → IsTermUnder s
 term_same s t p q h k = let f : p.function ≡ q.function = h.function ∙ sym k.function in let a = args_same s t.args p.args q.args h.args k.args in λ i. record { function = f i; args = a i }
 
 pub target_same : (s : Assignment) (t : Target) (v w : Value) → IsTargetUnder s t v → IsTargetUnder s t w → v ≡ w
+target_same s (summed a) v w h k = absurd h
 target_same s (plain o) v w h k = let both : Some v ≡ Some w = sym h ∙ k in cc
 target_same s (made t) v w h k = h.2 ∙ ap Page (term_same s t h.0 k.0 h.1 k.1) ∙ sym k.2
 
@@ -106,7 +108,8 @@ no_link : (G : DataGraph) (q : Scope) (blocks : List QueryBlock) (d : Datum) (la
 no_link G q blocks d label v checked e l =
     let s = bodies_to (λ c b. SomeOf (IsJoined G c (Data d) label v) b.links) q blocks checked e l in
     let m = (checked s.item s.within).sources s.holds.item s.holds.within in
-    let at : IsTargetUnder (value_in s.item.chain.variables s.holds.holds.row) (made m.0) (Data d) = subst (λ x. IsTargetUnder (value_in s.item.chain.variables s.holds.holds.row) x (Data d)) m.1 s.holds.holds.holds.from in
+    let given = joined_given G s.item.chain (Data d) label v s.holds.item s.holds.holds in
+    let at : IsTargetUnder (value_in s.item.chain.variables given.row) (made m.0) (Data d) = subst (λ x. IsTargetUnder (value_in s.item.chain.variables given.row) x (Data d)) m.1 given.holds.0 in
     not_page d at.0 at.2
 
 pub data_edges : (G : DataGraph) (q : Scope) (blocks : List QueryBlock) (d : Datum) (label : Name) (u : Value) (ends : List Value) → u ≡ Data d → ((b : QueryBlock) → Contains blocks b → IsCheckedBlock q.version b) → q.bodies ≡ map body_of blocks

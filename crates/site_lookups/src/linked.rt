@@ -136,11 +136,7 @@ fn ends_by_rows<A: Asker>(
 }
 
 // What the aggregate tells of the parts, in any order and any number of times, if it tells something.
-fn told_of(
-    alloc: Global,
-    aggregate: &Aggregate,
-    parts: Vec<Value>,
-) -> Result<Vec<Value>, NoMemory>
+fn told_of(alloc: Global, aggregate: &Aggregate, parts: Vec<Value>) -> Result<Vec<Value>, NoMemory>
     ensures { IfOk result
         (λ ends. (v : AnyValue) → Contains ends.items v
         ↔ TellsOf (aggregate_of aggregate.now) (Contains parts.items) v) }

@@ -72,7 +72,7 @@ ConditionFault c check at = ⊥
 abbrev pub is_plain : Target → Bool
 is_plain (plain o) = true
 is_plain (made t) = false
-is_plain (summed a span) = false
+is_plain (summed a span) = true
 
 -- LinkFromData: a link's source that isn't a term
 abbrev pub LinkFault : Link → Check → ℕ → Type 0

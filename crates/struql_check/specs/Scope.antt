@@ -4,7 +4,6 @@ use Rattle.std.specs.List.{flat_map, list_any}
 use Rattle.query_spec.specs.Mentions.{same_name}
 use Rattle.struql_ast.specs.declared.Operand.{Operand}
 use Rattle.struql_ast.specs.declared.Operand.TheVariants.{Variable, Constant}
-use Rattle.sd_lex.specs.declared.token.Span.{Span}
 use Rattle.struql_ast.specs.declared.Aggregate.{Aggregate}
 use Rattle.struql_ast.specs.declared.Aggregate.TheVariants.{Count, Min, Max, Sum}
 use Rattle.struql_ast.specs.declared.LinkLabel.{LinkLabel}
@@ -42,17 +41,13 @@ mentions (negation c span) = mentions c
 abbrev pub term_mentions : Term → List VariableUse
 term_mentions t = flat_map (operand_mentions Other) t.args
 
--- the variable of an aggregate
-abbrev pub variable_mention : Name → Span → VariableUse
-variable_mention x span = record { name = x; role = Other; at = span.start }
-
 -- the variables of an aggregate, in the text's order
 abbrev pub aggregate_mentions : Aggregate → List VariableUse
-aggregate_mentions (Count v span) = variable_mention v span ∷ []
-aggregate_mentions (Min v span) = variable_mention v span ∷ []
-aggregate_mentions (Max v span) = variable_mention v span ∷ []
+aggregate_mentions (Count v span) = operand_mentions Other (Variable v span)
+aggregate_mentions (Min v span) = operand_mentions Other (Variable v span)
+aggregate_mentions (Max v span) = operand_mentions Other (Variable v span)
 aggregate_mentions (Sum v v_span x x_span) =
-    variable_mention v v_span ∷ variable_mention x x_span ∷ []
+    operand_mentions Other (Variable v v_span) ++ operand_mentions Other (Variable x x_span)
 
 -- the variables of a target
 abbrev pub target_mentions : Target → List VariableUse

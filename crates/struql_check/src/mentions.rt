@@ -9,7 +9,9 @@ ghost use Rattle.struql_check.specs.declared.mentions.Role.TheVariants.{Other};
 
 use sd_value::{NoMemory, Str};
 use std::alloc::Global;
-use struql_ast::{Aggregate, Collect, Condition, Link, LinkLabel, Operand, PathStep, SkolemTerm, Target};
+use struql_ast::{
+    Aggregate, Collect, Condition, Link, LinkLabel, Operand, PathStep, SkolemTerm, Target,
+};
 
 /// The part that a variable plays where it is.
 #[derive(Clone, Copy)]
@@ -142,9 +144,11 @@ fn push_aggregate(
         ≡ found.old.items ++ aggregate_mentions aggregate.now) }
 {
     match aggregate {
-        Aggregate::Count(name, span) | Aggregate::Min(name, span) | Aggregate::Max(name, span) => {
+        Aggregate::Count(name, span) => {
             push_mention(alloc, found, name, Role::Other, span.start)
         }
+        Aggregate::Min(name, span) => push_mention(alloc, found, name, Role::Other, span.start),
+        Aggregate::Max(name, span) => push_mention(alloc, found, name, Role::Other, span.start),
         Aggregate::Sum {
             value,
             value_span,

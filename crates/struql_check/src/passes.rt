@@ -139,7 +139,7 @@ pub(crate) fn first_of_conditions(conditions: &[Condition]) -> Option<Fault>
 fn is_plain(target: &Target) -> bool
     ensures { result ≡ is_plain (target_written target.now) }
 {
-    matches!(target, Target::Plain(_))
+    matches!(target, Target::Plain(_) | Target::Summed(_, _))
 }
 
 fn fault_if(broken: bool, check: Check, at: u64) -> Option<Fault>

@@ -7,12 +7,12 @@ use Rattle.struql_ast.specs.declared.Condition as declared
 use Rattle.struql_ast.specs.declared.PathStep.{PathStep}
 use Rattle.struql_ast.specs.declared.PathStep.TheVariants as step
 use Rattle.struql_ast.specs.declared.Target as target
-use Rattle.struql_ast.specs.declared.Target.TheVariants.{Plain, Made}
+use Rattle.struql_ast.specs.declared.Target.TheVariants.{Plain, Made, Summed}
 use Rattle.struql_ast.specs.declared.Link as link
 use Rattle.struql_ast.specs.declared.Collect as collect
 use Rattle.struql_ast.specs.Written as tree
 use Rattle.struql_ast.specs.Written.{step_written, condition_written, term_written, target_written, link_written, collect_written, block_written, row_written, blocks_written, block_clauses, block_inner, inner_made, clauses_made}
-use Rattle.struql_ast.specs.Reading.{operand_of, step_of, condition_of, term_of, target_of, label_of, link_of, collect_of, block_onto, row_of_blocks, blocks_of}
+use Rattle.struql_ast.specs.Reading.{operand_of, step_of, condition_of, term_of, target_of, aggregate_of, label_of, link_of, collect_of, block_onto, row_of_blocks, blocks_of}
 use Rattle.query_spec.specs.Query as plain
 use Rattle.query_spec.specs.Query.{Body, Blocks}
 
@@ -34,6 +34,7 @@ term_kept t = record { function = t.function; args = map operand_of t.args }
 abbrev target_kept : tree.Target → plain.Target
 target_kept (tree.plain o) = plain.plain (operand_of o)
 target_kept (tree.made t) = plain.made (term_kept t)
+target_kept (tree.summed a span) = plain.summed (aggregate_of a)
 
 abbrev link_kept : tree.Link → plain.Link
 link_kept k = record { source = target_kept k.source; label = label_of k.label; target = target_kept k.target }
@@ -63,6 +64,7 @@ condition_same (declared.Not' p c span) = ap plain.negation (condition_same c)
 target_same : (t : target.Target) → target_kept (target_written t) ≡ target_of t
 target_same (Plain o) = refl
 target_same (Made t) = refl
+target_same (Summed a span) = refl
 
 link_same : (k : link.Link) → link_kept (link_written k) ≡ link_of k
 link_same k = rw (target_same k.source, target_same k.target) refl

@@ -94,6 +94,13 @@ is_not : is_found words.Not (keyword_of (codes "not")) ≡ true
 unfolding keyword_of
 is_not = refl
 
+is_of : is_found words.Of (keyword_of (codes "of")) ≡ true
+unfolding keyword_of
+is_of = refl
+
+pub of_part : Part IsReal (keyword words.Of) (keyword words.Of) Always (read_keyword words.Of)
+of_part = keyword_part words.Of (codes "of") is_of (refl, (refl, tt))
+
 pub in_part : Part IsReal (keyword words.In) (keyword words.In) Always (read_keyword words.In)
 in_part = keyword_part words.In (codes "in") is_in (refl, (refl, tt))
 

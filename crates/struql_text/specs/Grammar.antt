@@ -2,7 +2,8 @@
 -- nothing of how they are read.
 --
 --   term    := name "(" [ operand { "," operand } ] ")"
---   link    := ( name | term ) "->" ( Quoted | name ) "->" ( operand | term )
+--   link    := ( name | term ) "->" ( Quoted | name ) "->" ( operand | term | aggregate )
+--   aggregate := ( "count" | "min" | "max" ) "(" name ")" | "sum" "(" name "OF" name ")"   in version 3
 --   coll    := collection "(" ( name | term ) ")"
 --   operand := name | Int | Quoted
 --   cond    := plain | "not" "(" plain ")"
@@ -13,7 +14,7 @@
 --   collection := name | Quoted
 --
 -- What begins alike is said once: a name or a text, and then either what is in parentheses or not.
-use Rattle.std.specs.Prelude.{ℕ, List, [], ◌∷◌, ◌++◌, Option, Some, None}
+use Rattle.std.specs.Prelude.{ℕ, Bool, true, false, nat_eq, if◌then◌else◌, List, [], ◌∷◌, ◌++◌, Option, Some, None}
 use Rattle.sd_value.specs.declared.Datum.TheVariants as datum
 use Rattle.sd_value.specs.declared.Value.TheVariants.{Data}
 use Rattle.sd_lex.specs.declared.token.Span.{Span}
@@ -24,13 +25,15 @@ use Rattle.query_spec.specs.declared.Test.{Test}
 use Rattle.value_texts.specs.declared.TextTest.{TextTest}
 use Rattle.struql_ast.specs.declared.Operand.{Operand}
 use Rattle.struql_ast.specs.declared.Operand.TheVariants.{Variable, Constant}
+use Rattle.struql_ast.specs.declared.Aggregate.{Aggregate}
+use Rattle.struql_ast.specs.declared.Aggregate.TheVariants.{Sum}
 use Rattle.struql_ast.specs.Written as tree
 use Rattle.struql_ast.specs.Written.{Step, Condition, Term, Target, Link, Collect}
 use Rattle.grammar.specs.Grammar.{nothing, one, ◌>>=◌, ◌>>◌, either, iterated}
 use Rattle.struql_text.specs.declared.keyword.Keyword.TheVariants as words
 use Rattle.struql_text.specs.declared.keyword.Word.{Word}
 use Rattle.struql_text.specs.Terminals.{from_to, name_value, collection_value, operand_value, operand_span}
-use Rattle.struql_text.specs.Terminals.{constant_value, label_value, op_value, test_of, pair_test}
+use Rattle.struql_text.specs.Terminals.{aggregate_named, is_sum, constant_value, label_value, op_value, test_of, pair_test}
 use Rattle.struql_text.specs.Expression.{sign, keyword, Counted}
 
 -- ---- lists
@@ -69,6 +72,34 @@ variable_of x = Variable x.text x.span
 abbrev pub target_span : Target → Span
 target_span (tree.plain o) = operand_span o
 target_span (tree.made t) = t.span
+target_span (tree.summed a span) = span
+
+-- the aggregate that a function makes of one variable
+abbrev pub aggregate_of : List ℕ → List Operand → Option Aggregate
+aggregate_of f (Variable v span ∷ []) = aggregate_named f v span
+aggregate_of f args = None
+
+-- the aggregate, or else the term
+abbrev pub aggregate_or : Option Aggregate → Term → Target
+aggregate_or None t = tree.made t
+aggregate_or (Some a) t = tree.summed a t.span
+
+-- a term as the target of a link: in version 3 `count(v)` and its like are aggregates
+abbrev pub called : ℕ → Term → Target
+called version t =
+    aggregate_or (if nat_eq version 3 then aggregate_of t.function t.args else None) t
+
+-- the end of `sum()`, which is a term
+abbrev pub sum_of_none : Word → List Token → Target → Type 0
+sum_of_none f = do
+  t ← no_arguments f
+  nothing (tree.made t)
+
+-- the end of `sum(v)`, which is a term
+abbrev pub sum_of_one : Word → Operand → List Token → Target → Type 0
+sum_of_one f first = do
+  close ← sign signs.CloseParen
+  nothing (tree.made (term_of f (first ∷ []) close))
 
 -- `isInt(x)` and its like where the name is a test's, else `C(x)`
 abbrev pub call_with : Option Test → Word → Word → Span → Condition
@@ -144,12 +175,68 @@ module _ (version : ℕ) where
     x ← name
     named_target x
 
+  -- the end of a sum from `OF` on
+  abbrev pub sum_over : Word → List ℕ → Span → List Token → Target → Type 0
+  sum_over f v v_span = do
+    keyword words.Of
+    x ← name
+    close ← sign signs.CloseParen
+    nothing (tree.summed (Sum v v_span x.text x.span) (from_to f.span close))
+
+  -- the end of `sum` with more arguments, which is a term
+  abbrev pub sum_of_more : Word → Operand → List Token → Target → Type 0
+  sum_of_more f first = do
+    sign signs.Comma
+    args ← listed operand
+    close ← sign signs.CloseParen
+    nothing (tree.made (term_of f (first ∷ args) close))
+
+  -- `sum` as a term, after its first argument
+  abbrev pub sum_term_end : Word → Operand → List Token → Target → Type 0
+  sum_term_end f first = either (sum_of_one f first) (sum_of_more f first)
+
+  -- `sum`, after its first argument
+  abbrev pub sum_end : Word → Operand → List Token → Target → Type 0
+  sum_end f (Variable v span) = either (sum_over f v span) (sum_term_end f (Variable v span))
+  sum_end f (Constant v span) = sum_term_end f (Constant v span)
+
+  -- `sum`, with its first argument
+  abbrev pub sum_of_some : Word → List Token → Target → Type 0
+  sum_of_some f = do
+    first ← operand
+    sum_end f first
+
+  -- `sum(v OF x)`, or a term
+  abbrev pub sum_target : Word → List Token → Target → Type 0
+  sum_target f = do
+    sign signs.OpenParen
+    either (sum_of_none f) (sum_of_some f)
+
+  -- `count(v)` and its like, or a term
+  abbrev pub called_target : Word → List Token → Target → Type 0
+  called_target f = do
+    t ← arguments f
+    nothing (called version t)
+
+  -- by whether the name is `sum`
+  abbrev pub by_sum : Bool → Word → List Token → Target → Type 0
+  by_sum true f = sum_target f
+  by_sum false f = called_target f
+
+  -- arguments behind a name, which make a term or an aggregate
+  abbrev pub applied : Word → List Token → Target → Type 0
+  applied f = by_sum (is_sum version f.text) f
+
+  -- behind a name at a link's end: arguments, or nothing
+  abbrev pub named_end : Word → List Token → Target → Type 0
+  named_end x = either (applied x) (nothing (tree.plain (variable_of x)))
+
   -- behind an operand: a name may have arguments, and a constant has none
   abbrev pub operand_target : Operand → List Token → Target → Type 0
-  operand_target (Variable x span) = named_target (record { text = x; span = span })
+  operand_target (Variable x span) = named_end (record { text = x; span = span })
   operand_target (Constant v span) = nothing (tree.plain (Constant v span))
 
-  -- an operand or a term
+  -- an operand, a term or an aggregate
   abbrev pub target : List Token → Target → Type 0
   target = do
     o ← operand

@@ -1,5 +1,5 @@
 -- Reading the parts of a clause from left to right.
-use Rattle.std.specs.Prelude.{ℕ, zero, suc, ◌+◌, true, List, [], ◌∷◌, ◌++◌, Option, Some, None}
+use Rattle.std.specs.Prelude.{ℕ, zero, suc, ◌+◌, Bool, true, false, List, [], ◌∷◌, ◌++◌, Option, Some, None}
 use Rattle.sd_value.specs.declared.Datum.TheVariants as datum
 use Rattle.sd_value.specs.declared.Value.TheVariants.{Data}
 use Rattle.sd_lex.specs.declared.token.Span.{Span}
@@ -12,6 +12,7 @@ use Rattle.query_spec.specs.declared.Test.{Test}
 use Rattle.value_texts.specs.declared.TextTest.{TextTest}
 use Rattle.struql_ast.specs.declared.Operand.{Operand}
 use Rattle.struql_ast.specs.declared.Operand.TheVariants.{Variable, Constant}
+use Rattle.struql_ast.specs.declared.Aggregate.TheVariants.{Sum}
 use Rattle.struql_ast.specs.Written as tree
 use Rattle.struql_ast.specs.Written.{Step, Condition, Term, Target, Link, Collect, Blocks, no_blocks, Query}
 use Rattle.grammar.specs.Reading.{Outcome, Past, ◌>>=◌, ◌>>◌, give, take_one, choose, iterate, guard}
@@ -19,10 +20,10 @@ use Rattle.struql_text.specs.declared.keyword.Keyword.{Keyword}
 use Rattle.struql_text.specs.declared.keyword.Keyword.TheVariants as words
 use Rattle.struql_text.specs.declared.keyword.Word.{Word}
 use Rattle.struql_text.specs.Terminals.{from_to, sign_value, keyword_value, is_keyword, is_name, name_value, collection_value}
-use Rattle.struql_text.specs.Terminals.{operand_value, operand_span, constant_value, label_value, op_value, test_of, pair_test}
+use Rattle.struql_text.specs.Terminals.{is_sum, operand_value, operand_span, constant_value, label_value, op_value, test_of, pair_test}
 use Rattle.token_reader.specs.Terminals.{is_sign}
 use Rattle.struql_text.specs.Expression.{leaf_value, Counted, bounded}
-use Rattle.struql_text.specs.Grammar.{term_of, variable_of, target_span, call_with, between}
+use Rattle.struql_text.specs.Grammar.{term_of, variable_of, called, target_span, call_with, between}
 
 -- the reader of a sign
 abbrev pub read_sign : Sign → List Token → Outcome Token Span
@@ -171,6 +172,18 @@ read_path_step = do
   e ← read_expression 64 0
   give (tree.expression e.tree e.span)
 
+-- the end of `sum()`
+unfoldable pub read_sum_of_none : Word → List Token → Outcome Token Target
+read_sum_of_none f = do
+  t ← read_nullary f
+  give (tree.made t)
+
+-- the end of `sum(v)`
+unfoldable pub read_sum_of_one : Word → Operand → List Token → Outcome Token Target
+read_sum_of_one f first = do
+  close ← read_sign signs.CloseParen
+  give (tree.made (term_of f (first ∷ []) close))
+
 -- ---- terms, links, collections and conditions, by the version
 
 module _ (version : ℕ) where
@@ -222,12 +235,73 @@ module _ (version : ℕ) where
     x ← read_name
     read_named_target x
 
+  -- the end of a sum from `OF` on
+  unfoldable pub read_sum_over : Word → List ℕ → Span → List Token → Outcome Token Target
+  read_sum_over f v v_span = do
+    read_keyword words.Of
+    x ← read_name
+    close ← read_sign signs.CloseParen
+    give (tree.summed (Sum v v_span x.text x.span) (from_to f.span close))
+
+  -- the end of `sum` with more arguments
+  unfoldable pub read_sum_of_more : Word → Operand → List Token → Outcome Token Target
+  read_sum_of_more f first = do
+    read_sign signs.Comma
+    args ← read_listed read_operand
+    close ← read_sign signs.CloseParen
+    give (tree.made (term_of f (first ∷ args) close))
+
+  -- `sum` as a term, after its first argument
+  unfoldable pub read_sum_term_end : Word → Operand → List Token → Outcome Token Target
+  read_sum_term_end f first =
+      choose (is_sign signs.CloseParen) (read_sum_of_one f first) (read_sum_of_more f first)
+
+  -- `sum`, after its first argument
+  unfoldable pub read_sum_end : Word → Operand → List Token → Outcome Token Target
+  read_sum_end f (Variable v span) =
+      choose (is_keyword words.Of) (read_sum_over f v span)
+      (read_sum_term_end f (Variable v span))
+  read_sum_end f (Constant v span) = read_sum_term_end f (Constant v span)
+
+  -- `sum`, with its first argument
+  unfoldable pub read_sum_of_some : Word → List Token → Outcome Token Target
+  read_sum_of_some f = do
+    first ← read_operand
+    read_sum_end f first
+
+  -- `sum(v OF x)`, or a term
+  unfoldable pub read_sum_target : Word → List Token → Outcome Token Target
+  read_sum_target f = do
+    read_sign signs.OpenParen
+    choose (is_sign signs.CloseParen) (read_sum_of_none f) (read_sum_of_some f)
+
+  -- `count(v)` and its like, or a term
+  unfoldable pub read_called_target : Word → List Token → Outcome Token Target
+  read_called_target f = do
+    t ← read_arguments f
+    give (called version t)
+
+  -- by whether the name is `sum`
+  unfoldable pub read_by_sum : Bool → Word → List Token → Outcome Token Target
+  read_by_sum true f = read_sum_target f
+  read_by_sum false f = read_called_target f
+
+  -- arguments behind a name, which make a term or an aggregate
+  unfoldable pub read_applied_target : Word → List Token → Outcome Token Target
+  read_applied_target f = read_by_sum (is_sum version f.text) f
+
+  -- behind a name at a link's end
+  unfoldable pub read_named_end : Word → List Token → Outcome Token Target
+  read_named_end x =
+      choose (is_sign signs.OpenParen) (read_applied_target x)
+      (give (tree.plain (variable_of x)))
+
   -- behind an operand
   unfoldable pub read_operand_target : Operand → List Token → Outcome Token Target
-  read_operand_target (Variable x span) = read_named_target (record { text = x; span = span })
+  read_operand_target (Variable x span) = read_named_end (record { text = x; span = span })
   read_operand_target (Constant v span) = give (tree.plain (Constant v span))
 
-  -- an operand or a term
+  -- an operand, a term or an aggregate
   unfoldable pub read_target : List Token → Outcome Token Target
   read_target = do
     o ← read_operand

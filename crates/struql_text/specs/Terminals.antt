@@ -19,6 +19,8 @@ use Rattle.value_texts.specs.declared.TextTest.{TextTest}
 use Rattle.value_texts.specs.declared.TextTest.TheVariants.{Starts, Ends, Has}
 use Rattle.struql_ast.specs.declared.Operand.{Operand}
 use Rattle.struql_ast.specs.declared.Operand.TheVariants.{Variable, Constant}
+use Rattle.struql_ast.specs.declared.Aggregate.{Aggregate}
+use Rattle.struql_ast.specs.declared.Aggregate.TheVariants.{Count, Min, Max}
 use Rattle.struql_ast.specs.declared.LinkLabel.{LinkLabel}
 use Rattle.struql_ast.specs.declared.LinkLabel.TheVariants as label
 use Rattle.struql_text.specs.declared.keyword.Keyword.{Keyword}
@@ -236,6 +238,17 @@ text_test_of w =
 -- the same in a version: there are such tests in version 3
 abbrev pub pair_test : ℕ → List ℕ → Option TextTest
 pair_test version w = if nat_eq version 3 then text_test_of w else None
+
+-- `count`, `min` or `max` of a variable, by the function's name
+unfoldable pub aggregate_named : List ℕ → List ℕ → Span → Option Aggregate
+aggregate_named f v span =
+    if bytes_eq f (codes "count") then Some (Count v span)
+    else (if bytes_eq f (codes "min") then Some (Min v span)
+    else (if bytes_eq f (codes "max") then Some (Max v span) else None))
+
+-- the function's name is `sum`, in version 3
+unfoldable pub is_sum : ℕ → List ℕ → Bool
+is_sum version f = nat_eq version 3 && bytes_eq f (codes "sum")
 
 -- `STRUQL`, in all upper or all lower case
 abbrev pub is_head_kind : TokenKind → Bool

@@ -1,6 +1,7 @@
 //! Reads terms, links, collections, conditions and path expressions from tokens.
 #![tactic(auto)]
 
+mod aggregates;
 mod conditions;
 mod expression;
 mod keyword;

@@ -11,6 +11,7 @@ ghost use Rattle.struql_text.specs.Reading.{read_operand, read_further, read_nex
 ghost use Rattle.struql_text.specs.Reading.{read_term, read_made, read_named_target, read_source};
 ghost use Rattle.struql_text.specs.Reading.{read_operand_target, read_target, read_link, read_collect};
 
+use crate::aggregates::named_end_at;
 use crate::expression::from_to;
 use crate::keyword::Word;
 use crate::tokens::{collection_at, label_at, name_at, operand_at, sign_at};
@@ -54,7 +55,7 @@ fn operands_from(
 }
 
 #[tactic(auto, unfolding(crate::specs::Reading::read_listed))]
-fn operands_at(
+pub(crate) fn operands_at(
     alloc: Global,
     version: u8,
     tokens: &[Token],
@@ -67,7 +68,7 @@ fn operands_at(
 
 /// The arguments of a function, which make its name a term.
 #[tactic(auto, unfolding(crate::specs::Reading::read_arguments, crate::specs::Reading::read_nullary, crate::specs::Reading::read_applied))]
-fn arguments_at(
+pub(crate) fn arguments_at(
     alloc: Global,
     version: u8,
     function: Word,
@@ -141,7 +142,7 @@ fn source_at(
     named_target_at(alloc, version, name, rest)
 }
 
-/// An operand or a term.
+/// An operand, a term or an aggregate.
 #[tactic(auto, unfolding(crate::specs::Reading::read_target, crate::specs::Reading::read_operand_target))]
 fn target_at(
     alloc: Global,
@@ -152,7 +153,7 @@ fn target_at(
 {
     let (operand, rest) = operand_at(alloc, version, tokens)?;
     match operand {
-        Operand::Variable(text, span) => named_target_at(alloc, version, Word { text, span }, rest),
+        Operand::Variable(text, span) => named_end_at(alloc, version, Word { text, span }, rest),
         Operand::Constant(value, span) => {
             Ok((Target::Plain(Operand::Constant(value, span)), rest))
         }
@@ -166,6 +167,7 @@ fn span_of(target: &Target) -> Span
         Target::Plain(Operand::Variable(_, span)) => *span,
         Target::Plain(Operand::Constant(_, span)) => *span,
         Target::Made(term) => term.span,
+        Target::Summed(_, span) => *span,
     }
 }
 

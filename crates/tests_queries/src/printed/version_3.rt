@@ -19,6 +19,15 @@ const PRINTED: &[QueryRow] = &[
         text: "STRUQL 2 INPUT D{WHERE starts(x),'isInt'(x)}OUTPUT S",
         canonical: "STRUQL 2\nINPUT D\n{ WHERE starts(x), 'isInt'(x) }\nOUTPUT S\n",
     },
+    // A keyword of version 3 is in quotes there, and bare before.
+    QueryRow {
+        text: "STRUQL 3 INPUT D WHERE not('order'(x)) CREATE F() COLLECT 'BY'(F()), \"Fold\"(F()) OUTPUT S",
+        canonical: "STRUQL 3\nINPUT D\n{ WHERE not('order'(x)) CREATE F() COLLECT 'BY'(F()), Fold(F()) }\nOUTPUT S\n",
+    },
+    QueryRow {
+        text: "STRUQL 2 INPUT D WHERE not('order'(x)) CREATE F() COLLECT BY(F()) OUTPUT S",
+        canonical: "STRUQL 2\nINPUT D\n{ WHERE not(order(x)) CREATE F() COLLECT BY(F()) }\nOUTPUT S\n",
+    },
 ];
 
 #[test]

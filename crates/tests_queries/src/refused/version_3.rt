@@ -35,9 +35,27 @@ const TEXTS: &[Refused] = &[
             "STRUQL 3 INPUT D WHERE C(x) CREATE F() COLLECT ^'sum'(x) OUTPUT S",
         ],
     },
+    // Six words more are keywords there, wherever a name may stand.
+    Refused {
+        number: Some(71),
+        texts: &[
+            "STRUQL 3 INPUT D WHERE A(^order) CREATE F(order) OUTPUT S",
+            "STRUQL 3 INPUT D WHERE A(x), x -> ^BY -> y OUTPUT S",
+            "STRUQL 3 INPUT D WHERE ^OF(x) OUTPUT S",
+            "STRUQL 3 INPUT D CREATE ^descend() OUTPUT S",
+            "STRUQL 3 INPUT D WHERE A(x) CREATE F(x) LINK F(x) -> ^FOLD -> x OUTPUT S",
+            "STRUQL 3 INPUT D WHERE A(x) CREATE F(x) COLLECT ^none(x) OUTPUT S",
+            "STRUQL 3 INPUT ^none OUTPUT S",
+            "STRUQL 3 INPUT D OUTPUT ^ORDER",
+        ],
+    },
     Refused {
         number: None,
         texts: &[
+            // In versions 1 and 2 they are names, and in version 3 in other cases, and quoted.
+            "INPUT order WHERE none(by), by -> of -> fold CREATE DESCEND(by) OUTPUT fold",
+            "STRUQL 2 INPUT D WHERE A(order) CREATE F(order) OUTPUT S",
+            "STRUQL 3 INPUT D WHERE 'order'(x), Order(x), x -> 'by' -> nonE CREATE Fold(x) OUTPUT S",
             "STRUQL 3 INPUT D OUTPUT S",
             "struql 003 INPUT D WHERE starts(x, 'a'), ends('a', x), has(1, 'a') OUTPUT S",
             "STRUQL 3 INPUT D WHERE not(has(x, y)) CREATE F(x, y) OUTPUT S",
