@@ -218,10 +218,10 @@ module _ (map : FileMap) (sources : DataFiles) (first : Option (List ℕ))
   -- The files spell these inputs: the data files, with the first query, if there is one, their data, and the other two
   -- files the query and the templates.
   pub record Spell (s : Inputs) : Type 0 where
-    pub data : DataInputs
-    pub data_are : DataInputsEnd map sources first (Ok data)
-    pub its_first : first_of data.first ≡ s.making.first
-    pub query_is : QueryOverEnds map query_path data.graph (Ok (record {
+    pub found : DataInputs
+    pub data_are : DataInputsEnd map sources first (Ok found)
+    pub its_first : first_of found.first ≡ s.making.first
+    pub query_is : QueryOverEnds map query_path found.graph (Ok (record {
       graph = s.graph;
       query = query_of s;
     }))

@@ -3,6 +3,7 @@ use Rattle.std.specs.Prelude.{List, map}
 use Rattle.order_spec.specs.Order.{Order}
 use Rattle.order_spec.specs.Read.{order_of}
 use Rattle.query_spec.specs.Query as plain
+use Rattle.struql_ast.specs.Reading.{query_of}
 use Rattle.struql_ast.specs.Written as written
 use Rattle.struql_ast.specs.Written.{query_written}
 use Rattle.struql_orders.specs.declared.OrderedQuery as declared
@@ -23,3 +24,7 @@ ordered_written q = record {
   orders = map order_of q.orders.items;
   query = query_written q.query;
 }
+
+-- and without places
+abbrev pub ordered_of : declared.OrderedQuery → Ordered
+ordered_of q = record { orders = map order_of q.orders.items; query = query_of q.query }
