@@ -16,6 +16,7 @@ pub(crate) fn made_site(alloc: Global, entries: u32) -> Result<SiteInputs, NoMem
 {
     Ok(SiteInputs {
         graph: made_graph(alloc, entries)?,
+        stated: None,
         making: Making {
             first: None,
             orders: Vec::new(alloc),

@@ -10,7 +10,7 @@ use Rattle.command_spec.specs.Limits.{data_limit}
 use Rattle.edit_spec.specs.declared.Edit.{Edit}
 use Rattle.edit_reader.specs.Reads.{IsEditText}
 use Rattle.data_texts.specs.Texts.{States}
-use Rattle.data_texts.specs.ComposedTexts.{MakesData}
+use Rattle.data_texts.specs.ComposedTexts.{MakesData, IsMade}
 use Rattle.data_texts.specs.Edits.{EditReader, edit_under}
 use Rattle.data_texts.specs.declared.run_texts.RunText.{RunText}
 use Rattle.data_texts.specs.declared.run_texts.RunText.TheVariants.{Data, Other}
@@ -23,7 +23,7 @@ BeginsEdit text begins =
 
 -- the text makes these data; or it makes none, and this is the edit that it spells, or none where it spells none
 abbrev pub IsRunText : Making → List ℕ → RunText → Type 0
-IsRunText making text (Data G) = MakesData making text G
+IsRunText making text (Data made) = IsMade making text (Some made)
 IsRunText making text (Other edit) =
     ((G : DataGraph) → ¬ MakesData making text G)
     × ((reader : EditReader) → edit ≡ edit_under reader making text)

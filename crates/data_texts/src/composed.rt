@@ -2,14 +2,14 @@
 
 ghost use Rattle.std.specs.Prelude.{◌≡◌, IfOk};
 ghost use Rattle.made_data.specs.Making.{making_of};
-ghost use Rattle.data_texts.specs.Texts.{States, IsRead};
-ghost use Rattle.data_texts.specs.ComposedTexts.{MakesData, Readers};
+ghost use Rattle.data_texts.specs.Texts.{States};
+ghost use Rattle.data_texts.specs.ComposedTexts.{IsMade, Readers};
 
 use crate::read_change;
 use command_spec::DATA_LIMIT;
-use made_data::{Making, made_data};
+use made_data::{Made, Making, made_data};
 use sd_ddl::read_ddl;
-use sd_graph::{Graph, GraphBuilder, GraphRefusal, PROGRAM_LIMITS};
+use sd_graph::{GraphBuilder, GraphRefusal, PROGRAM_LIMITS};
 use sd_value::{NoMemory, Str};
 use std::alloc::Global;
 
@@ -19,12 +19,18 @@ fn made(
     text: &Str,
     gathered: GraphBuilder,
     making: &Making,
-) -> Result<Option<Graph>, NoMemory>
+) -> Result<Option<Made>, NoMemory>
     requires { States text.now gathered.graph }
-    ensures { IfOk result (IsRead (MakesData (making_of making.now)) text.now) }
+    ensures { IfOk result (IsMade (making_of making.now) text.now) }
 {
+    let stated = if making.keeps_stated() {
+        let copy = gathered.copy(alloc)?;
+        Some(copy.finish(alloc)?)
+    } else {
+        None
+    };
     match made_data(alloc, gathered, making) {
-        Ok(graph) => Ok(Some(graph)),
+        Ok(graph) => Ok(Some(Made { graph, stated })),
         Err(GraphRefusal::TooManyNodes) => Ok(None),
         Err(GraphRefusal::TooManyEdges) => Ok(None),
         Err(GraphRefusal::NoMemory) => Err(NoMemory),
@@ -32,8 +38,8 @@ fn made(
 }
 
 // The data that are made of what a text states, where both are accepted.
-fn read_made(alloc: Global, text: &Str, making: &Making) -> Result<Option<Graph>, NoMemory>
-    ensures { IfOk result (IsRead (MakesData (making_of making.now)) text.now) }
+fn read_made(alloc: Global, text: &Str, making: &Making) -> Result<Option<Made>, NoMemory>
+    ensures { IfOk result (IsMade (making_of making.now) text.now) }
 {
     let mut gathered = GraphBuilder::new(alloc, PROGRAM_LIMITS);
     match read_ddl(alloc, text.bytes(), DATA_LIMIT, &mut gathered) {
@@ -51,11 +57,15 @@ fn read_made(alloc: Global, text: &Str, making: &Making) -> Result<Option<Graph>
 /// it states or, under a first query or ORDERs, the graph that these make of them, where it is within the program's limits.
 /// # Errors
 /// Out of memory.
-pub fn read_text(alloc: Global, text: &Str, making: &Making) -> Result<Option<Graph>, NoMemory>
-    ensures { IfOk result (IsRead (MakesData (making_of making.now)) text.now) }
+pub fn read_text(alloc: Global, text: &Str, making: &Making) -> Result<Option<Made>, NoMemory>
+    ensures { IfOk result (IsMade (making_of making.now) text.now) }
 {
     if making.is_plain() {
-        return read_change(alloc, text);
+        let read = read_change(alloc, text)?;
+        return Ok(read.map(|graph| Made {
+            graph,
+            stated: None,
+        }));
     }
     read_made(alloc, text, making)
 }

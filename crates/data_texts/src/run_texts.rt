@@ -8,8 +8,7 @@ use crate::composed::read_text;
 use crate::edits::read_text_edit;
 use command_spec::DATA_LIMIT;
 use edit_spec::Edit;
-use made_data::Making;
-use sd_graph::Graph;
+use made_data::{Made, Making};
 use sd_lex::{LexRefusal, text_rest, tokens_to_close};
 use sd_value::{NoMemory, Str};
 use std::alloc::Global;
@@ -19,7 +18,7 @@ use token_reader::has_word;
 #[derive(Drop)]
 pub enum RunText {
     /// The data that it makes.
-    Data(Graph),
+    Data(Made),
     /// It makes none; the edit that it spells, if it spells one.
     Other(Option<Edit>),
 }
@@ -54,7 +53,7 @@ pub fn read_run_text(alloc: Global, text: &Str, making: &Making) -> Result<RunTe
         return Ok(RunText::Other(edit));
     }
     match read_text(alloc, text, making)? {
-        Some(graph) => Ok(RunText::Data(graph)),
+        Some(made) => Ok(RunText::Data(made)),
         None => Ok(RunText::Other(None)),
     }
 }

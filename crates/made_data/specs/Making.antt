@@ -1,6 +1,9 @@
 -- How data are made of what is stated: by a first query, if there is one, and by ORDERs.
-use Rattle.std.specs.Prelude.{◌≡◌, ◌⊎◌, List, [], Bool, true, false, map, Option, Some, None, Result, Ok, Err, ⊤}
+use Rattle.std.specs.Prelude.{◌≡◌, ◌⊎◌, ◌<◌, ◌&&◌, not, length, List, [], Bool, true, false, map, Option, Some, None, Result, Ok, Err, ⊤}
+use Rattle.std.specs.Option.{is_none}
 use Rattle.graph_spec.specs.DataGraph.{DataGraph}
+use Rattle.edit_spec.specs.declared.Edit.{Edit}
+use Rattle.edit_graphs.specs.After.{graph_after}
 use Rattle.sd_graph.specs.declared.Limits.{Limits}
 use Rattle.sd_graph.specs.declared.GraphRefusal.{GraphRefusal}
 use Rattle.sd_graph.specs.declared.GraphRefusal.TheVariants.{TooManyNodes, TooManyEdges, NoMemory}
@@ -68,6 +71,17 @@ is_stated first orders = false
 
 abbrev pub is_plain : Making → Bool
 is_plain making = is_stated making.first making.orders
+
+-- what is stated is kept beside the data: there are ORDERs, and there is no first query
+abbrev pub keeps_stated : Making → Bool
+keeps_stated making = is_none making.first && not (is_plain making)
+
+-- How an edit of a graph ends: with the graph after it, or that is over the program's limits.
+abbrev pub EditEnds : Edit → DataGraph → Result DataGraph GraphRefusal → Type 0
+EditEnds e G (Ok H) = (H ≡ graph_after e G) × Fits program H
+EditEnds e G (Err TooManyNodes) = node_limit < length (graph_after e G).nodes
+EditEnds e G (Err TooManyEdges) = Overflows program (graph_after e G)
+EditEnds e G (Err NoMemory) = ⊤
 
 -- the graph of what was built, or the same refusal
 abbrev pub graph_result : Result Building GraphRefusal → Result DataGraph GraphRefusal

@@ -1,12 +1,15 @@
 //! The data of a site, as what is stated, a first query and ORDERs make them.
 #![tactic(auto)]
 
-ghost use Rattle.std.specs.Prelude.{map};
+ghost use Rattle.std.specs.Prelude.{◌≡◌, IfOk, map};
 ghost use Rattle.order_spec.specs.Read.{order_of};
 ghost use Rattle.query_reader.specs.Reads.{read_value};
-ghost use Rattle.made_data.specs.Making.{graph_result, OrderEnds, FirstEnds, MadeEnds, making_of, is_plain};
+ghost use Rattle.made_data.specs.Making.{graph_result, OrderEnds, FirstEnds, MadeEnds, making_of, is_plain, keeps_stated};
+
+mod edited;
 
 use composed_data::composed_data;
+pub use edited::edited_data;
 use graph_order::{OrderFault, builder_of, order_graph};
 use order_spec::Order;
 use query_reader::OrderedChecked;
@@ -21,7 +24,21 @@ pub struct Making {
     pub orders: Vec<Order>,
 }
 
+/// Data, and what they were made of, where an edit needs it: under ORDERs and without a first query an edit is of that.
+#[derive(Drop)]
+pub struct Made {
+    pub graph: Graph,
+    pub stated: Option<Graph>,
+}
+
 impl Making {
+    /// Whether the data are kept that are stated, beside those that ORDERs make of them.
+    pub fn keeps_stated(&self) -> bool
+        ensures { result ≡ keeps_stated (making_of self.now) }
+    {
+        self.first.is_none() && !self.orders.is_empty()
+    }
+
     /// Whether what is stated is the data: there is neither a first query nor an ORDER.
     pub fn is_plain(&self) -> bool
         ensures { result ≡ is_plain (making_of self.now) }
@@ -91,4 +108,13 @@ pub fn made_data(
         Some(first) => first_data(alloc, gathered, first)?,
     };
     ordered_data(alloc, graph, &making.orders)
+}
+
+/// A copy of a graph. Its texts share their bytes with that one's.
+pub fn copied(alloc: Global, graph: &Graph) -> Result<Graph, GraphRefusal>
+    ensures { IfOk result (λ copy. copy ≡ graph.now) }
+{
+    let builder = builder_of(alloc, PROGRAM_LIMITS, graph)?;
+    let copy = builder.finish(alloc)?;
+    Ok(copy)
 }

@@ -10,7 +10,7 @@ ghost use Rattle.site_inputs.specs.Values.{over_result};
 use crate::fault::{Fault, refused};
 use crate::site::load_query;
 use edge_io::Files;
-use made_data::ordered_data;
+use made_data::{copied, ordered_data};
 use order_spec::Order;
 use query_reader::OrderedChecked;
 use run_report::Place;
@@ -23,6 +23,8 @@ use struql_check::Checked;
 #[derive(Drop)]
 pub struct QueryOver {
     pub graph: Graph,
+    /// The data before, where there are ORDERs.
+    pub stated: Option<Graph>,
     pub orders: Vec<Order>,
     pub query: Checked,
 }
@@ -39,9 +41,19 @@ pub fn take_over(
     ensures { OrdersTaken path.now graph (read_value read) (over_result result) }
 {
     let OrderedChecked { orders, checked } = read;
+    let stated = if orders.is_empty() {
+        None
+    } else {
+        match copied(alloc, &graph) {
+            Ok(copy) => Some(copy),
+            // A copy has no more than the graph.
+            Err(_) => return Err(Fault::NoMemory),
+        }
+    };
     match ordered_data(alloc, graph, &orders) {
         Ok(graph) => Ok(QueryOver {
             graph,
+            stated,
             orders,
             query: checked,
         }),

@@ -37,7 +37,9 @@ use tmpl::Templates;
 pub struct SiteInputs {
     /// The data that the query is asked over.
     pub graph: Graph,
-    /// What made them of what the data files state.
+    /// What is stated, where edits are of it.
+    pub stated: Option<Graph>,
+    /// What made the data of what the data files state.
     pub making: Making,
     pub query: Checked,
     pub templates: Templates,
@@ -201,12 +203,18 @@ pub fn load_inputs<F: Files>(
     let data = load_data(alloc, files, sources, over)?;
     let over = load_query_over(alloc, files, query, data.graph)?;
     let templates = load_templates(alloc, files, templates)?;
+    let stated = if data.first.is_none() {
+        over.stated
+    } else {
+        None
+    };
     let making = Making {
         first: data.first,
         orders: over.orders,
     };
     Ok(SiteInputs {
         graph: over.graph,
+        stated,
         making,
         query: over.query,
         templates,

@@ -12,11 +12,11 @@ ghost use Rattle.site_pages.specs.Texts.{Current, current_site, current_template
 mod live;
 mod made;
 
-use data_texts::{RunText, read_run_text, spared};
+use data_texts::{RunText, read_run_text, remade, spared};
 use edit_spec::Edit;
 pub use made::PageSource;
 use made::{MadePages, pages_after, pages_over};
-use made_data::Making;
+use made_data::{Made, Making};
 use page_spec::Outcome;
 use query_blocks::QueryBlocks;
 use sd_graph::{Graph, GraphBuilder, PROGRAM_LIMITS};
@@ -33,6 +33,8 @@ pub struct SitePages<'q> {
     source: PageSource,
     // What makes the data of what a text states.
     making: &'q Making,
+    // What is stated, where edits are of it and not of the data.
+    stated: Option<Graph>,
     scopes: &'q QueryBlocks,
     templates: &'q Templates,
 }
@@ -56,7 +58,7 @@ impl<'q> SitePages<'q> {
     /// The pages over these data. Texts make what this makes of what they state.
     pub fn of(
         alloc: Global,
-        graph: Graph,
+        made: Made,
         making: &'q Making,
         scopes: &'q QueryBlocks,
         templates: &'q Templates,
@@ -66,18 +68,20 @@ impl<'q> SitePages<'q> {
         ensures state { IfOk result (λ pages. ⟦<SitePages<'q> as Versions>⟧.state pages ≡ record {
           making = making_of making.now;
           pages = record {
-            graph = graph;
+            graph = made.graph;
             scope = scope_of scopes.now;
             templates = file_of templates.now;
           };
         }) }
         ensures own { IfOk result (λ pages. ⟦<SitePages<'q> as Versions>⟧.Own pages) }
     {
+        let Made { graph, stated } = made;
         let pages = pages_over(alloc, graph, scopes, templates, source)?;
         Ok(SitePages {
             pages,
             source,
             making,
+            stated,
             scopes,
             templates,
         })
@@ -113,7 +117,7 @@ impl<'q> SitePages<'q> {
 
     // Takes other data. The new ones are indexed before the old ones go, and so is the site made whole, where pages come
     // from it.
-    fn take_data(&mut self, alloc: Global, graph: Graph, kept: &[Term]) -> Result<Changed, NoMemory>
+    fn take_data(&mut self, alloc: Global, made: Made, kept: &[Term]) -> Result<Changed, NoMemory>
         requires own { ⟦<SitePages<'q> as Versions>⟧.Own self.old }
         ensures own { ⟦<SitePages<'q> as Versions>⟧.Own self.new }
         ensures state { IfOk result (λ c. ⟦<SitePages<'q> as Versions>⟧.state self.new
@@ -122,8 +126,27 @@ impl<'q> SitePages<'q> {
         ensures flags { IfOk result (TellsEach (λ t. false) kept.now) }
     {
         let flags = none_stays(alloc, kept)?;
+        let Made { graph, stated } = made;
         self.pages = pages_over(alloc, graph, self.scopes, self.templates, self.source)?;
+        self.stated = stated;
         Ok(Changed::Taken(Same { flags }))
+    }
+
+    // Makes an edit of what is stated, where there is room, and the data anew.
+    fn take_remade(
+        &mut self,
+        alloc: Global,
+        edit: &Edit,
+        kept: &[Term],
+    ) -> Result<Changed, NoMemory> {
+        let made = match &self.stated {
+            Some(stated) => remade(alloc, stated, edit, &self.making.orders)?,
+            None => None,
+        };
+        match made {
+            Some(made) => self.take_data(alloc, made, kept),
+            None => Ok(Changed::Refused),
+        }
     }
 
     // Makes an edit, where there is room for the graph after it.
@@ -177,7 +200,13 @@ impl<'q> SitePages<'q> {
             (⟦<SitePages<'q> as Versions>⟧.state self.old) edit.now) kept.now) }
     {
         match edit {
-            Some(edit) => self.take_edit(alloc, edit, kept),
+            Some(edit) => {
+                if self.making.keeps_stated() {
+                    self.take_remade(alloc, edit, kept)
+                } else {
+                    self.take_edit(alloc, edit, kept)
+                }
+            }
             None => Ok(Changed::Refused),
         }
     }
@@ -225,7 +254,7 @@ impl<'q> Versions for SitePages<'q> {
     /// A text that states data replaces them all. Any other may be an edit of them.
     fn change(&mut self, alloc: Global, text: &Str, kept: &[Term]) -> Result<Changed, NoMemory> {
         match read_run_text(alloc, text, self.making)? {
-            RunText::Data(graph) => self.take_data(alloc, graph, kept),
+            RunText::Data(made) => self.take_data(alloc, made, kept),
             RunText::Other(edit) => self.take_text_edit(alloc, &edit, kept),
         }
     }
