@@ -1,6 +1,6 @@
 -- The inputs of a site, taken in this order: the data, the query and the templates. The data are what the data files state
 -- or, where there is a first query, that query's site over it, seen as data.
-use Rattle.std.specs.Prelude.{◌≡◌, ◌⊎◌, ℕ, List, Result, Ok, Err, Option, Some, None, ⊤}
+use Rattle.std.specs.Prelude.{◌≡◌, ◌⊎◌, ℕ, List, Result, Ok, Err, Option, Some, None, ⊤, if◌then◌else◌}
 use Rattle.edge_io.specs.Files.{FileMap}
 use Rattle.command_spec.specs.Limits.{text_limit}
 use Rattle.command_spec.specs.declared.DataFiles.{DataFiles}
@@ -15,7 +15,7 @@ use Rattle.sd_graph.specs.declared.GraphRefusal.{GraphRefusal}
 use Rattle.sd_graph.specs.declared.GraphRefusal.TheVariants as over
 use Rattle.struql_orders.specs.declared.OrderedQuery as declared
 use Rattle.struql_orders.specs.Ordered.{OrderedQuery, Ordered}
-use Rattle.made_data.specs.Making.{Making, OrderEnds, FirstEnds, first_of}
+use Rattle.made_data.specs.Making.{Making, keeps_stated, OrderEnds, FirstEnds, first_of}
 use Rattle.order_spec.specs.Order.{Order}
 use Rattle.struql_parse.specs.declared.refusal.ParseRefusal.{ParseRefusal}
 use Rattle.struql_parse.specs.declared.refusal.ParseRefusal.TheVariants as parse
@@ -201,10 +201,11 @@ TemplatesEnd map path = Then (FileEnds text_limit map path) (TemplatesTaken path
 
 -- ---- all three
 
--- what a site is made of: the data that the query is asked over, what made them of what the files state, the query and
--- the templates
+-- what a site is made of: the data that the query is asked over, what is stated where edits are of that, what made the
+-- data, the query and the templates
 pub record Inputs : Type 0 where
   pub graph : DataGraph
+  pub stated : Option DataGraph
   pub making : Making
   pub query : plain.Query
   pub templates : TemplateFile
@@ -221,6 +222,7 @@ module _ (map : FileMap) (sources : DataFiles) (first : Option (List ℕ))
     pub found : DataInputs
     pub data_are : DataInputsEnd map sources first (Ok found)
     pub its_first : first_of found.first ≡ s.making.first
+    pub stated_is : s.stated ≡ (if keeps_stated s.making then Some found.graph else None)
     pub query_is : QueryOverEnds map query_path found.graph (Ok (record {
       graph = s.graph;
       query = query_of s;

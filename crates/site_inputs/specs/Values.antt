@@ -39,6 +39,7 @@ over_result (Err fault) = Err fault
 abbrev pub inputs_of : SiteInputs → Inputs
 inputs_of s = record {
   graph = s.graph;
+  stated = s.stated;
   making = making_of s.making;
   query = s.query;
   templates = file_of s.templates;

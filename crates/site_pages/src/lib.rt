@@ -67,6 +67,7 @@ impl<'q> SitePages<'q> {
         requires { AreCheckedBlocks scopes.now.version scopes.now.blocks.items }
         ensures state { IfOk result (λ pages. ⟦<SitePages<'q> as Versions>⟧.state pages ≡ record {
           making = making_of making.now;
+          stated = made.stated;
           pages = record {
             graph = made.graph;
             scope = scope_of scopes.now;
@@ -219,6 +220,7 @@ impl<'q> Versions for SitePages<'q> {
 
     ghost state = { λ s. record {
       making = making_of s.making.now;
+      stated = s.stated;
       pages = ⟦<MadePages<'q> as Pages>⟧.fixed s.pages;
     } };
 

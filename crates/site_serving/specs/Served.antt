@@ -18,6 +18,7 @@ use Rattle.site_pages.specs.Texts.{Current, current_site, current_templates, dat
 abbrev pub first_data : Inputs → Current
 first_data s = record {
   making = s.making;
+  stated = s.stated;
   pages = record { graph = s.graph; scope = scope_of s.query; templates = s.templates };
 }
 
