@@ -28,4 +28,4 @@ usage_of (Some name) = (row name).usage
 abbrev pub version_text : List ℕ
 version_text =
     codes "strudel 0.1.0\n"
-    ++ codes "rattle-kit-13b logic dac8208d650f15bf\n"
+    ++ codes "rattle-kit-13f logic dac8208d650f15bf\n"

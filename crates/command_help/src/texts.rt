@@ -18,7 +18,7 @@ An option is --name=VALUE, or --name VALUE. Behind a word -- no word is an optio
 
 const VERSION_TEXT: &[u8] = b"\
 strudel 0.1.0\n\
-rattle-kit-13b logic dac8208d650f15bf\n";
+rattle-kit-13f logic dac8208d650f15bf\n";
 
 // The usage of the program: the lines of each command between a head and an end.
 fn program_usage(alloc: Global) -> Result<Str, NoMemory>

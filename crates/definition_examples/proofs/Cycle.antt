@@ -9,7 +9,7 @@ use Rattle.sd_value.specs.Ascending.{ListsExactly}
 use Rattle.graph_spec.specs.DataGraph.{Name}
 use Rattle.page_spec.specs.declared.Keyed.{Keyed}
 use Rattle.page_spec.specs.declared.Outcome.TheVariants.{Cyclic}
-use Rattle.page_spec.specs.Site.{InRange, HasKey, keyed_cmp}
+use Rattle.page_spec.specs.Site.{InRange, HasPlaces, row_cmp}
 use Rattle.page_spec.specs.Pieces.{embed, HasTemplate, Pieces}
 use Rattle.page_spec.specs.Page.{Embeds, nowhere, on, Loops, FirstLooping, again, later, IsCyclicAt, IsOutcome}
 use Rattle.page_spec.proofs.Texts.{cyclic_unique}
@@ -54,13 +54,13 @@ from_r v h =
     ]
 
 abbrev Fits : Value → Keyed → Type 0
-Fits n z = InRange site record { here = n; loops = [] } ends z.value × HasKey site None z.value z.key
+Fits n z = InRange site record { here = n; loops = [] } ends z.value × HasPlaces site [] z.value z.places
 
 abbrev keyed : Value → Keyed
-keyed m = record { key = None; value = m }
+keyed m = record { places = []; value = m }
 
-is_row : (y z : Keyed) → y.key ≡ z.key → y.value ≡ z.value → y ≡ z
-is_row y z h g = λ i. record { key = h i; value = g i }
+is_row : (y z : Keyed) → y.places ≡ z.places → y.value ≡ z.value → y ≡ z
+is_row y z h g = λ i. record { places = h i; value = g i }
 
 only_row : (n m : Value) → Only n m → (z : Keyed) → Fits n z → IsOneOf (keyed m ∷ []) z
 unfolding Only
@@ -68,9 +68,9 @@ only_row n m one z ((u, starts, (v, step, is)), key) =
     let at : site.edge n e v = subst (λ w. site.edge w e v) (sym starts) step in
     inl (is_row (keyed m) z (sym key) (sym (one v at) ∙ is))
 
-one_row : (n m : Value) → site.edge n e m → Only n m → ListsExactly keyed_cmp (Fits n) (keyed m ∷ [])
+one_row : (n m : Value) → site.edge n e m → Only n m → ListsExactly row_cmp (Fits n) (keyed m ∷ [])
 unfolding IsStrictlySortedBy
-one_row n m step one = listed keyed_cmp (Fits n) (keyed m ∷ []) (tt, tt) (((n, refl, (m, step, refl)), refl), tt) (only_row n m one)
+one_row n m step one = listed row_cmp (Fits n) (keyed m ∷ []) (tt, tt) (((n, refl, (m, step, refl)), refl), tt) (only_row n m one)
 
 one_piece : (n m : Value) → HasTemplate site templates n 0 → HasTemplate site templates m 0 → site.edge n e m → Only n m → Pieces site templates n (embed m ∷ [])
 one_piece n m has has' step one =

@@ -1,8 +1,8 @@
 -- A value without a key stands after those that have one; how many values there are, and the first of them.
-use Rattle.std.specs.Prelude.{◌≡◌, ◌⊎◌, List, [], ◌∷◌, Some, None, codes}
+use Rattle.std.specs.Prelude.{◌≡◌, ◌⊎◌, Bool, true, false, List, [], ◌∷◌, Some, None, codes}
 use Rattle.std.specs.Fmt.{digits}
 use Rattle.std.specs.List.Sorted.{IsStrictlySortedBy}
-use Rattle.std.specs.declared.cmp.Ordering.TheVariants.{Greater}
+use Rattle.std.specs.declared.cmp.Ordering.TheVariants.{Less, Greater}
 use Rattle.std.proofs.Common.{refl, sym, ap, subst, inl, inr, lit<, ◌∙◌}
 use Rattle.sd_value.specs.declared.Datum.TheVariants.{Node}
 use Rattle.sd_value.specs.declared.Value.{Value}
@@ -15,14 +15,16 @@ use Rattle.sd_value.specs.Ascending.{ListsExactly}
 use Rattle.graph_spec.specs.declared.Edge.{Edge}
 use Rattle.graph_spec.specs.DataGraph.{Name, node, HasEdge}
 use Rattle.page_spec.specs.declared.Keyed.{Keyed}
-use Rattle.page_spec.specs.Site.{InRange, HasKey, keyed_cmp, Arranged}
+use Rattle.page_spec.specs.declared.Place.TheVariants.{Last}
+use Rattle.tmpl.specs.declared.SortKey.{SortKey}
+use Rattle.page_spec.specs.Site.{InRange, HasKey, HasPlaces, place, row_cmp, Arranged}
 use Rattle.page_spec.specs.Pieces.{bytes, Expands}
-use Rattle.page_spec.proofs.Unique.{key_unique}
+use Rattle.page_spec.proofs.Unique.{places_unique}
 use Rattle.tmpl.specs.Body.{done, count}
 use Rattle.definition_examples.specs.Tools.{edge}
 use Rattle.definition_examples.proofs.Tools.{listed, names_differ}
 use Rattle.definition_examples.specs.Bibliography.{int}
-use Rattle.definition_examples.specs.Keys.{a, b, c, e, k, graph, site, at_a, ends, ascending, descending, up_to, no_templates}
+use Rattle.definition_examples.specs.Keys.{a, b, c, e, k, graph, site, at_a, ends, ascending, descending, downwards, up_to, no_templates}
 
 edges_are : (u : Value) (l : Name) (v : Value) → HasEdge graph u l v
     → ((u ≡ node a) × (l ≡ e) × (v ≡ node b)) ⊎ (((u ≡ node a) × (l ≡ e) × (v ≡ node c)) ⊎ ((u ≡ node c) × (l ≡ k) × (v ≡ int 5)))
@@ -60,48 +62,65 @@ c_has_5 = (
       cc,
 )
 
-abbrev Fits : Keyed → Type 0
-Fits r = InRange site at_a ends r.value × HasKey site (Some (k ∷ [])) r.value r.key
+-- KEY=k, and with DESCEND
+abbrev key : Bool → SortKey
+key d = record { word = k ∷ []; fold = false; descend = d }
 
-abbrev with_key : Keyed
-with_key = record { key = Some (int 5); value = node c }
+b_places : (d : Bool) → HasPlaces site (key d ∷ []) (node b) (Last ∷ [])
+b_places d = (None, [], b_has_none, refl, refl)
+
+c_places : (d : Bool) → HasPlaces site (key d ∷ []) (node c) (place d (int 5) ∷ [])
+c_places d = (Some (int 5), [], c_has_5, refl, refl)
+
+abbrev Fits : Bool → Keyed → Type 0
+Fits d r = InRange site at_a ends r.value × HasPlaces site (key d ∷ []) r.value r.places
+
+abbrev with_key : Bool → Keyed
+with_key d = record { places = place d (int 5) ∷ []; value = node c }
 
 abbrev without : Keyed
-without = record { key = None; value = node b }
+without = record { places = Last ∷ []; value = node b }
 
-abbrev rows : List Keyed
-rows = with_key ∷ without ∷ []
+abbrev rows : Bool → List Keyed
+rows d = with_key d ∷ without ∷ []
 
-is_row : (r s : Keyed) → r.key ≡ s.key → r.value ≡ s.value → r ≡ s
-is_row r s h g = λ i. record { key = h i; value = g i }
+is_row : (r s : Keyed) → r.places ≡ s.places → r.value ≡ s.value → r ≡ s
+is_row r s h g = λ i. record { places = h i; value = g i }
 
-only : (r : Keyed) → Fits r → IsOneOf rows r
-only r ((u, starts, (m, step, is)), key) =
+only : (d : Bool) (r : Keyed) → Fits d r → IsOneOf (rows d) r
+only d r ((u, starts, (m, step, is)), at) =
     elim (edges_are u e m step) [
       | inl h ↦ let value : r.value ≡ node b = sym is ∙ h.2 in
-          inr (inl (is_row without r (sym (key_unique site (Some (k ∷ [])) (node b) r.key None (subst (λ z. HasKey site (Some (k ∷ [])) z r.key) value key) b_has_none)) (sym value)))
+          inr (inl (is_row without r (sym (places_unique site (key d ∷ []) (node b) r.places (Last ∷ []) (subst (λ z. HasPlaces site (key d ∷ []) z r.places) value at) (b_places d))) (sym value)))
       | inr (inl h) ↦ let value : r.value ≡ node c = sym is ∙ h.2 in
-          inl (is_row with_key r (sym (key_unique site (Some (k ∷ [])) (node c) r.key (Some (int 5)) (subst (λ z. HasKey site (Some (k ∷ [])) z r.key) value key) c_has_5)) (sym value))
+          inl (is_row (with_key d) r (sym (places_unique site (key d ∷ []) (node c) r.places (place d (int 5) ∷ []) (subst (λ z. HasPlaces site (key d ∷ []) z r.places) value at) (c_places d))) (sym value))
       | inr (inr h) ↦ absurd (names_differ e k refl h.1)
     ]
 
-rows_are : ListsExactly keyed_cmp Fits rows
+below : (d : Bool) → row_cmp (with_key d) without ≡ Less
+below false = refl
+below true = refl
+
+rows_are : (d : Bool) → ListsExactly row_cmp (Fits d) (rows d)
 unfolding IsStrictlySortedBy
-rows_are =
-    listed keyed_cmp Fits rows ((refl, tt), (tt, tt))
-    (((node a, refl, (node c, (1, lit< tt, refl), refl)), c_has_5), (((node a, refl, (node b, (0, lit< tt, refl), refl)), b_has_none), tt)) only
+rows_are d =
+    listed row_cmp (Fits d) (rows d) ((below d, tt), (tt, tt))
+    (((node a, refl, (node c, (1, lit< tt, refl), refl)), c_places d), (((node a, refl, (node b, (0, lit< tt, refl), refl)), b_places d), tt)) (only d)
 
 pub last_ascending : Arranged site at_a ends ascending (node c ∷ node b ∷ [])
-last_ascending = (rows, rows_are, refl)
+last_ascending = (rows false, rows_are false, refl)
 
 pub first_descending : Arranged site at_a ends descending (node b ∷ node c ∷ [])
-first_descending = (rows, rows_are, refl)
+first_descending = (rows false, rows_are false, refl)
+
+pub last_downwards : Arranged site at_a ends downwards (node c ∷ node b ∷ [])
+last_downwards = (rows true, rows_are true, refl)
 
 pub first_alone : Arranged site at_a ends (up_to 1) (node c ∷ [])
-first_alone = (rows, rows_are, refl)
+first_alone = (rows false, rows_are false, refl)
 
 pub limit_past_all : Arranged site at_a ends (up_to 3) (node c ∷ node b ∷ [])
-limit_past_all = (rows, rows_are, refl)
+limit_past_all = (rows false, rows_are false, refl)
 
 abbrev values : List Value
 values = node b ∷ node c ∷ []

@@ -54,7 +54,7 @@ ends = record { root = Here; word = e ∷ [] }
 
 -- no key, and nothing between two values
 abbrev pub plain_order : orders.Order
-plain_order = record { key = None; descend = false; limit = None; delimiter = None }
+plain_order = record { keys = []; descend = false; limit = None; delimiter = None }
 
 -- `<SFMT @e EMBED>`, for all three functions
 abbrev pub body : Body

@@ -2,6 +2,7 @@
 use Rattle.std.specs.Prelude.{ℕ, [], ◌∷◌, Some, None, true, false, codes}
 use Rattle.tmpl.specs.declared.Expr.{Expr}
 use Rattle.tmpl.specs.declared.Order as orders
+use Rattle.tmpl.specs.declared.SortKey.{SortKey}
 use Rattle.tmpl.specs.Body.{TemplateFile}
 use Rattle.tmpl.specs.declared.WordRoot.TheVariants.{Here}
 use Rattle.graph_spec.specs.DataGraph.{DataGraph, Name, node, HasEdge}
@@ -49,17 +50,29 @@ at_a = record { here = node a; loops = [] }
 abbrev pub ends : Expr
 ends = record { root = Here; word = e ∷ [] }
 
--- `ORDER=ascend KEY=@k`, and `descend`
-abbrev pub ascending : orders.Order
-ascending = record { key = Some (k ∷ []); descend = false; limit = None; delimiter = None }
+-- `KEY=k`
+abbrev pub by_k : SortKey
+by_k = record { word = k ∷ []; fold = false; descend = false }
 
--- the same, turned round
+-- `KEY=k DESCEND`
+abbrev pub by_k_down : SortKey
+by_k_down = record { word = k ∷ []; fold = false; descend = true }
+
+-- `KEY=k DESCEND`
+abbrev pub downwards : orders.Order
+downwards = record { keys = by_k_down ∷ []; descend = false; limit = None; delimiter = None }
+
+-- `KEY=k ORDER=ascend`
+abbrev pub ascending : orders.Order
+ascending = record { keys = by_k ∷ []; descend = false; limit = None; delimiter = None }
+
+-- `KEY=k ORDER=descend`
 abbrev pub descending : orders.Order
-descending = record { key = Some (k ∷ []); descend = true; limit = None; delimiter = None }
+descending = record { keys = by_k ∷ []; descend = true; limit = None; delimiter = None }
 
 -- `KEY=k LIMIT=n`
 abbrev pub up_to : ℕ → orders.Order
-up_to n = record { key = Some (k ∷ []); descend = false; limit = Some n; delimiter = None }
+up_to n = record { keys = by_k ∷ []; descend = false; limit = Some n; delimiter = None }
 
 -- no templates
 abbrev pub no_templates : TemplateFile

@@ -23,11 +23,11 @@ ends label = record { root = Here; word = label ∷ [] }
 
 -- no key, and nothing between two values
 abbrev pub plain_order : orders.Order
-plain_order = record { key = None; descend = false; limit = None; delimiter = None }
+plain_order = record { keys = []; descend = false; limit = None; delimiter = None }
 
 -- no key, and this text between two values
 abbrev pub apart_by : Name → orders.Order
-apart_by delimiter = record { key = None; descend = false; limit = None; delimiter = Some delimiter }
+apart_by delimiter = record { keys = []; descend = false; limit = None; delimiter = Some delimiter }
 
 -- the papers of a page as links, each by its title
 abbrev pub papers_by_title : Body

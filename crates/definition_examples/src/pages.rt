@@ -17,13 +17,15 @@ ghost use Rattle.definition_examples.specs.Bibliography.{int};
 ghost use Rattle.definition_examples.specs.Keys as keys;
 ghost use Rattle.definition_examples.specs.Cycle as cycle;
 
-/// `@e ORDER=ascend KEY=@k` where `&c` alone has a key: `&b`, which has none, is last; and
-/// first with `descend`, which turns the whole list round.
+/// `@e KEY=k ORDER=ascend` where `&c` alone has a key: `&b`, which has none, is last; first with
+/// `ORDER=descend`, which turns the whole list round; and last with `KEY=k DESCEND`.
 pub fn missing_keys()
     ensures ascending { Arranged keys.site keys.at_a keys.ends keys.ascending
         (node keys.c ∷ node keys.b ∷ []) }
     ensures descending { Arranged keys.site keys.at_a keys.ends keys.descending
         (node keys.b ∷ node keys.c ∷ []) }
+    ensures downwards { Arranged keys.site keys.at_a keys.ends keys.downwards
+        (node keys.c ∷ node keys.b ∷ []) }
 {}
 
 /// `@e KEY=k` with a limit: LIMIT=1 leaves `&c`, which is first, and LIMIT=3 leaves both; and

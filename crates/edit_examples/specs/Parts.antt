@@ -46,7 +46,7 @@ abbrev pub here : List Name → Expr
 here word = record { root = Here; word = word }
 
 abbrev pub plain_order : orders.Order
-plain_order = record { key = None; descend = false; limit = None; delimiter = None }
+plain_order = record { keys = []; descend = false; limit = None; delimiter = None }
 
 -- one template, of F
 abbrev pub file : Body → TemplateFile

@@ -1,12 +1,12 @@
 //! What the expressions of a template read.
 ghost use Rattle.std.specs.Prelude.{◌≡◌, ◌++◌, [], ◌∷◌, IfOk, map, option_copied};
 ghost use Rattle.std.specs.List.{flat_map};
-ghost use Rattle.tmpl.specs.Expressions.{key_words, use_of};
+ghost use Rattle.tmpl.specs.Expressions.{key_words, label_words, use_of};
 ghost use Rattle.edit_footprint.specs.Gathered.{AddsExpr, AddsUses};
 
 use sd_value::{NoMemory, Str};
 use std::alloc::Global;
-use tmpl::{Expr, ExprUse, Word, WordRoot};
+use tmpl::{Expr, ExprUse, SortKey, Word, WordRoot};
 
 /// Whether there is an EMBED, the labels that are read at the presented value alone, those that are read at any value,
 /// and the collections.
@@ -29,12 +29,22 @@ fn add_labels(alloc: Global, labels: &[Str], out: &mut Vec<Str>) -> Result<(), N
 
 fn add_word(alloc: Global, word: Option<&Word>, out: &mut Vec<Str>) -> Result<(), NoMemory>
     ensures { IfOk result (λ _. out.new.items
-        ≡ out.old.items ++ flat_map (λ w. w) (key_words (option_copied word.entry))) }
+        ≡ out.old.items ++ flat_map (λ w. w) (label_words (option_copied word.entry))) }
 {
     match word {
         None => Ok(()),
         Some(word) => add_labels(alloc, word.labels(), out),
     }
+}
+
+fn add_keys(alloc: Global, keys: &[SortKey], out: &mut Vec<Str>) -> Result<(), NoMemory>
+    ensures { IfOk result (λ _. out.new.items
+        ≡ out.old.items ++ flat_map (λ w. w) (key_words keys.now)) }
+{
+    for key in keys {
+        add_labels(alloc, key.word.labels(), out)?;
+    }
+    Ok(())
 }
 
 fn add_expr(alloc: Global, values: &Expr, reads: &mut Reads) -> Result<(), NoMemory>
@@ -60,7 +70,7 @@ fn add_use(alloc: Global, x: &ExprUse, reads: &mut Reads) -> Result<(), NoMemory
     ensures { IfOk result (λ _. AddsUses reads.old reads.new (use_of x.now ∷ [])) }
 {
     add_expr(alloc, x.values, reads)?;
-    add_word(alloc, x.key, &mut reads.others)?;
+    add_keys(alloc, x.keys, &mut reads.others)?;
     add_word(alloc, x.label, &mut reads.others)?;
     if x.embeds {
         reads.embeds = true;

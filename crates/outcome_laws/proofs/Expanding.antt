@@ -120,12 +120,12 @@ module _ (site : Site) (listed : IsListed site) (templates : TemplateFile) (P : 
       let digits = decimal (length vs.0) in
       let b = expanded e a rest in
       (bytes digits ++ b.0, (vs.0, b.0, vs.1, b.1, refl), of_both P (bytes digits) b.0 (of_bytes P digits) b.2)
-  expanded e a (choice negated x against then other rest) =
-      by (taken site listed e negated x against) (expanded e a then) (expanded e a other) (expanded e a rest)
+  expanded e a (choice negated x test then other rest) =
+      by (taken site listed e negated x test) (expanded e a then) (expanded e a other) (expanded e a rest)
     where
-      by : Dec (Taken negated (TestHolds site e x against)) → Made P (Expands site templates e then)
+      by : Dec (Taken negated (TestHolds site e x test)) → Made P (Expands site templates e then)
           → Made P (Expands site templates e other) → Made P (Expands site templates e rest)
-          → Made P (Expands site templates e (choice negated x against then other rest))
+          → Made P (Expands site templates e (choice negated x test then other rest))
       by (yes h) f g b = (f.0 ++ b.0, (f.0, b.0, inl (h, f.1), b.1, refl), of_both P f.0 b.0 f.2 b.2)
       by (no n) f g b = (g.0 ++ b.0, (g.0, b.0, inr (n, g.1), b.1, refl), of_both P g.0 b.0 g.2 b.2)
   expanded e a (repeat k x o body rest) =

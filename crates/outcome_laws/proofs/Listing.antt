@@ -1,5 +1,5 @@
 -- What of a site can be listed, and so the values of each expression of a template.
-use Rattle.std.proofs.Common.{◌≡◌, ℕ, Bool, true, false, List, [], ◌∷◌, map, inl, inr, refl, ap, subst}
+use Rattle.std.proofs.Common.{◌≡◌, ℕ, Bool, true, false, List, [], ◌∷◌, ◌++◌, map, inl, inr, refl, ap, subst}
 use Rattle.std.specs.Prelude.{Contains, Option, Some, None, reverse, if◌then◌else◌}
 use Rattle.std.specs.declared.cmp.Ordering.{Ordering}
 use Rattle.std.specs.declared.cmp.Ordering.TheVariants.{Greater}
@@ -24,10 +24,14 @@ use Rattle.tmpl.specs.declared.WordRoot.{WordRoot}
 use Rattle.tmpl.specs.declared.WordRoot.TheVariants.{Here, Loop, Collection}
 use Rattle.page_spec.specs.declared.Bound.{Bound}
 use Rattle.page_spec.specs.declared.Keyed.{Keyed}
-use Rattle.page_spec.specs.KeyLaws.{keyed_cmp_total, keyed_same}
-use Rattle.page_spec.specs.Site.{Site, IsBound, Env, keyed_cmp, Reaches, Starts, InRange, HasKey, Arranged}
-use Rattle.page_spec.specs.Site.{values_of_rows, limited}
-use Rattle.page_spec.proofs.Unique.{key_unique, limited_in}
+use Rattle.page_spec.specs.declared.Place.{Place}
+use Rattle.key_spec.specs.Keys.{folded_text, folded_cmp}
+use Rattle.key_spec.specs.KeyLaws.{folded_total, folded_exact}
+use Rattle.tmpl.specs.declared.SortKey.{SortKey}
+use Rattle.page_spec.specs.KeyLaws.{row_cmp_total, row_same}
+use Rattle.page_spec.specs.Site.{Site, IsBound, Env, row_cmp, Reaches, Starts, InRange, IsLeast, HasKey, Arranged}
+use Rattle.page_spec.specs.Site.{values_of_rows, limited, places, HasPlaces}
+use Rattle.page_spec.proofs.Unique.{places_unique, limited_in}
 use Rattle.site_graphs.proofs.Decide.{Dec, yes, no, dec_not, dec_same, dec_nat}
 use Rattle.site_graphs.proofs.Lists.{AllOf, all_none, all_one, all_as, all_either, all_from}
 use Rattle.site_graphs.proofs.Sites.{Joint, Named}
@@ -68,26 +72,27 @@ module _ {X : Type 0} (R : X → X → Ordering) (total : IsTotalOrder R) (exact
     },
   )
 
--- a list of values, and the least of these where there are any
-abbrev IsLeast : (Value → Type 0) → Option Value → Type 0
-IsLeast P None = (u : Value) → P u → ⊥
-IsLeast P (Some k) = P k × ((u : Value) → P u → value_cmp k u ≡ Greater → ⊥)
+-- a list of things, and the least of these where there are any
+module _ {X : Type 0} (R : X → X → Ordering) (total : IsTotalOrder R) where
+  abbrev IsLeastOf : (X → Type 0) → Option X → Type 0
+  IsLeastOf P None = (u : X) → P u → ⊥
+  IsLeastOf P (Some k) = P k × ((u : X) → P u → R k u ≡ Greater → ⊥)
 
-least : (P : Value → Type 0) (xs : List Value) → ListsExactly value_cmp P xs → (k : Option Value) × IsLeast P k
-least P [] l = (None, λ u p. Contains-nil u (l.complete u p))
-least P (x ∷ xs) l = (
-  Some x,
-  (
-    l.sound x (Contains-here x xs),
-    λ u p over. elim (Contains-cons_cases x xs u (l.complete u p)) [
-      | inl same ↦
-          let tied = tied_itself value_cmp-total x in
-          let at : value_cmp x x ≡ value_cmp x u = ap (value_cmp x) same in
-          cc
-      | inr later ↦ let below = head_below value_cmp-total x xs l.ascending u later in cc
-    ],
-  ),
-)
+  least : (P : X → Type 0) (xs : List X) → ListsExactly R P xs → (k : Option X) × IsLeastOf P k
+  least P [] l = (None, λ u p. Contains-nil u (l.complete u p))
+  least P (x ∷ xs) l = (
+    Some x,
+    (
+      l.sound x (Contains-here x xs),
+      λ u p over. elim (Contains-cons_cases x xs u (l.complete u p)) [
+        | inl same ↦
+            let tied = tied_itself total x in
+            let at : R x x ≡ R x u = ap (R x) same in
+            cc
+        | inr later ↦ let below = head_below total x xs l.ascending u later in cc
+      ],
+    ),
+  )
 
 turned_back : {X : Type 0} (descend : Bool) (xs : List X) (x : X) → Contains (if descend then reverse xs else xs) x
     → Contains xs x
@@ -157,35 +162,51 @@ module _ (site : Site) (listed : IsListed site) where
 
   -- ---- keys, and the values in their order
 
-  pub key_of : (word : Option Word) (v : Value) → (k : Option Value) × HasKey site word v k
-  key_of None v = (None, refl)
-  key_of (Some word) v = by found.0 found.1
+  -- the least value that a word reaches
+  least_of : (fold : Bool) (word : Word) (v : Value)
+      → (k : Option Value) × IsLeast site (folded_cmp folded_text fold) word v k
+  least_of fold word v = by found.0 found.1
     where
-      found : (k : Option Value) × IsLeast (Reaches site v word) k
+      found : (k : Option Value) × IsLeastOf (folded_cmp folded_text fold) (folded_total folded_text fold) (Reaches site v word) k
       found =
-          let l = in_order value_cmp value_cmp-total value_cmp-exact (Reaches site v word) (all_reached v word) in
-          least (Reaches site v word) l.0 l.1
+          let total = folded_total folded_text fold in
+          let l = in_order (folded_cmp folded_text fold) total (folded_exact folded_text fold) (Reaches site v word) (all_reached v word) in
+          least (folded_cmp folded_text fold) total (Reaches site v word) l.0 l.1
 
-      by : (k : Option Value) → IsLeast (Reaches site v word) k → (k : Option Value) × HasKey site (Some word) v k
+      by : (k : Option Value) → IsLeastOf (folded_cmp folded_text fold) (folded_total folded_text fold) (Reaches site v word) k
+          → (k : Option Value) × IsLeast site (folded_cmp folded_text fold) word v k
       by None h = (None, h)
       by (Some k) h = (Some k, h)
 
+  pub key_of : (word : Option Word) (v : Value) → (k : Option Value) × HasKey site word v k
+  key_of None v = (None, refl)
+  key_of (Some word) v = least_of false word v
+
+  places_of : (keys : List SortKey) (v : Value) → (ps : List Place) × HasPlaces site keys v ps
+  places_of [] v = ([], refl)
+  places_of (key ∷ keys) v =
+      let one = least_of key.fold key.word v in
+      let rest = places_of keys v in
+      (places key one.0 ++ rest.0, (one.0, rest.0, one.1, rest.1, refl))
+
   module _ (e : Env) (x : Expr) (o : Order) where
     keyed : Value → Keyed
-    keyed v = record { key = (key_of o.key v).0; value = v }
+    keyed v = record { places = (places_of o.keys v).0; value = v }
 
-    all_rows : AllOf (λ (r : Keyed). InRange site e x r.value × HasKey site o.key r.value r.key)
+    abbrev IsRow : Keyed → Type 0
+    IsRow r = InRange site e x r.value × HasPlaces site o.keys r.value r.places
+
+    all_rows : AllOf IsRow
     unfolding keyed
     all_rows =
         all_as (λ (r : Keyed). (v : Value) × InRange site e x v × (keyed v ≡ r))
-        (λ (r : Keyed). InRange site e x r.value × HasKey site o.key r.value r.key)
-        (λ r h. subst (λ (r : Keyed). InRange site e x r.value × HasKey site o.key r.value r.key) h.2
-        (h.1, (key_of o.key h.0).1))
+        IsRow
+        (λ r h. subst IsRow h.2 (h.1, (places_of o.keys h.0).1))
         (λ r h. (
           r.value,
           h.0,
           (λ i. record {
-            key = key_unique site o.key r.value (key_of o.key r.value).0 r.key (key_of o.key r.value).1 h.1 i;
+            places = places_unique site o.keys r.value (places_of o.keys r.value).0 r.places (places_of o.keys r.value).1 h.1 i;
             value = r.value;
           }),
         ))
@@ -195,8 +216,7 @@ module _ (site : Site) (listed : IsListed site) where
     -- the expression's values in this order up to its limit, each of which is one of them
     pub arranged : (vs : List Value) × Arranged site e x o vs × ((v : Value) → Contains vs v → InRange site e x v)
     arranged =
-        let l = in_order keyed_cmp keyed_cmp_total keyed_same
-        (λ (r : Keyed). InRange site e x r.value × HasKey site o.key r.value r.key) all_rows in (
+        let l = in_order row_cmp row_cmp_total row_same IsRow all_rows in (
           limited o.limit (values_of_rows o l.0),
           (l.0, l.1, refl),
           λ v h.

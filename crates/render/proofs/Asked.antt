@@ -12,7 +12,9 @@ use Rattle.page_spec.specs.Question.{Question, MayKeep}
 use Rattle.tmpl.specs.declared.Expr.{Expr}
 use Rattle.tmpl.specs.declared.Order.{Order}
 use Rattle.demand_spec.specs.Reads.{Name, Word, Passes, KeepsOnly}
-use Rattle.render.specs.Asks.{WordAsks}
+use Rattle.tmpl.specs.declared.Test.{Test}
+use Rattle.tmpl.specs.declared.Test.TheVariants.{Any, Compares, Counts, Same}
+use Rattle.render.specs.Asks.{WordAsks, RangeAsks, TestAsks}
 
 pub keeps_none : {P : Question → Type 0} {l : List Question} → KeepsOnly P l l
 keeps_none = record { only = λ q h. inl h }
@@ -42,6 +44,13 @@ passes_at s w (k ∷ word) (suc i) l u lt is (m, e, r) = inr (m, e, passes_at s 
 -- the word that was asked begins at the values of P
 pub word_from : (s : Site) (from : List Value) (P : Value → Type 0) (labels word : Word) (q : Question) → ((v : Value) → Contains from v → P v) → labels ≡ word → WordAsks s (Contains from) labels q → WordAsks s P word q
 word_from s from P labels word q to e (u, l, is, (w, among, passes)) = (u, l, is, (w, to w among, subst (λ (z : Word). Passes s w z u l) e passes))
+
+-- a test asks what its expression asks
+pub range_tests : (s : Site) (e : Env) (x : Expr) (test : Test) (q : Question) → RangeAsks s e x q → TestAsks s e x test q
+range_tests s e x Any q h = h
+range_tests s e x (Compares a) q h = h
+range_tests s e x (Counts n) q h = h
+range_tests s e x (Same y) q h = inl h
 
 -- ---- values of an expression, in order
 

@@ -4,7 +4,7 @@ use Rattle.std.specs.Prelude.{Contains}
 use Rattle.std.specs.Fmt.{decimal}
 use Rattle.std.proofs.lemmas.List.Elements.{Contains-append_left, Contains-append_right, Contains-append_cases}
 use Rattle.sd_value.specs.declared.Value.{Value}
-use Rattle.sd_value.specs.Members.{Contains-here, Contains-there, Contains-nil, Contains-cons_cases}
+use Rattle.sd_value.specs.Members.{Contains-here, Contains-there, Contains-nil, Contains-cons_cases, Contains-mapped}
 use Rattle.page_spec.specs.Site.{Site, Env, IsBound, Starts, InRange}
 use Rattle.page_spec.specs.Pieces.{Item, byte, embed, bytes, Expands, Joined, Formatted, delimiter, binding, HasTemplate}
 use Rattle.page_spec.specs.Question.{Question, template}
@@ -16,13 +16,16 @@ use Rattle.tmpl.specs.declared.Repeat as repeats
 use Rattle.tmpl.proofs.Bodies.{choice_body, repeat_body}
 use Rattle.tmpl.specs.declared.Expr.{Expr}
 use Rattle.tmpl.specs.declared.Order.{Order}
+use Rattle.tmpl.specs.declared.SortKey.{SortKey}
+use Rattle.tmpl.specs.declared.Test.{Test}
+use Rattle.tmpl.specs.declared.Test.TheVariants.{Any, Compares, Counts, Same}
 use Rattle.tmpl.specs.declared.Mode.{Mode}
 use Rattle.tmpl.specs.declared.Mode.TheVariants.{Written, Embed, Link, Labelled}
 use Rattle.tmpl.specs.declared.WordRoot.{WordRoot}
 use Rattle.tmpl.specs.declared.WordRoot.TheVariants.{Here, Loop, Collection}
-use Rattle.tmpl.specs.Expressions.{Use, LoopOver, uses, loops, key_words, link_words, is_embed}
+use Rattle.tmpl.specs.Expressions.{Use, LoopOver, uses, bare_use, test_uses, loops, key_words, label_words, link_words, is_embed}
 use Rattle.demand_spec.specs.Reads.{Word, Begins, at_here, at_collected, at_loop, Ranges, Passes, BodyAsks, MayAsk}
-use Rattle.render.specs.Asks.{RangeAsks, KeyAsks, ArrangedAsks, ModeAsks, SceneAsks, ValueAsks, FrameAsks, LedAsks}
+use Rattle.render.specs.Asks.{RangeAsks, KeyAsks, TestAsks, ArrangedAsks, ModeAsks, SceneAsks, ValueAsks, FrameAsks, LedAsks}
 use Rattle.page_spec.specs.Page.{Embeds, Leads, nowhere}
 use Rattle.sd_value.specs.declared.Term.{Term}
 use Rattle.sd_value.specs.declared.Value.TheVariants.{Page}
@@ -57,7 +60,7 @@ format_asks s e part f q is h = subst (λ (z : Part). SceneAsks s e (part_before
 pub count_asks : (s : Site) (e : Env) (part : Part) (x : Expr) (q : Question) → part ≡ Count x → RangeAsks s e x q → SceneAsks s e (part_before part done) q
 count_asks s e part x q is h = subst (λ (z : Part). SceneAsks s e (part_before z done) q) (sym is) (inl h)
 
-pub choice_asks : (s : Site) (e : Env) (part : Part) (x : choices.Choice) (q : Question) → part ≡ Choice x → (RangeAsks s e x.values q ⊎ (SceneAsks s e (body_of x.taken.items) q ⊎ SceneAsks s e (body_of x.other.items) q)) → SceneAsks s e (part_before part done) q
+pub choice_asks : (s : Site) (e : Env) (part : Part) (x : choices.Choice) (q : Question) → part ≡ Choice x → (TestAsks s e x.values x.test q ⊎ (SceneAsks s e (body_of x.taken.items) q ⊎ SceneAsks s e (body_of x.other.items) q)) → SceneAsks s e (part_before part done) q
 choice_asks s e part x q is h = subst (λ (z : Body). SceneAsks s e z q) (sym (ap (λ p. part_before p done) is ∙ choice_body x done)) (inl h)
 
 pub repeat_asks : (s : Site) (e : Env) (part : Part) (x : repeats.Repeat) (q : Question) → part ≡ Repeat x → (ArrangedAsks s e x.values x.order q ⊎ ((v : Value) × InRange s e x.values v × SceneAsks s (binding e x.number v) (body_of x.body.items) q)) → SceneAsks s e (part_before part done) q
@@ -88,24 +91,28 @@ module _ (s : Site) (b : Body) (n : Value) where
   range_asks e x q fits among (inl (c, root, is)) = subst (BodyAsks s b n) (sym is) (x, among, root)
   range_asks e x q fits among (inr (u, label, is, (w, start, passes))) = subst (BodyAsks s b n) (sym is) (x, among, inl (w, begins e x.expr w fits start, passes))
 
-  key_asks : (e : Env) (x : Use) (word : Option Word) (v : Value) (q : Question) → Fits e → Contains (uses b) x → ((w : Word) → Contains (key_words word) w → Contains x.onward w) → InRange s e x.expr v → KeyAsks s word v q → BodyAsks s b n q
+  key_asks : (e : Env) (x : Use) (word : Option Word) (v : Value) (q : Question) → Fits e → Contains (uses b) x → ((w : Word) → Contains (label_words word) w → Contains x.onward w) → InRange s e x.expr v → KeyAsks s word v q → BodyAsks s b n q
   key_asks e x None v q fits among onward r h = absurd h
   key_asks e x (Some word) v q fits among onward r (u, label, is, (w, same, passes)) =
       subst (BodyAsks s b n) (sym is) (x, among, inr (v, ranges e x.expr v fits r, (word, onward word (Contains-here word []), subst (λ z. Passes s z word u label) (sym same) passes)))
 
-  arranged_asks : (e : Env) (x : Use) (o : Order) (q : Question) → Fits e → Contains (uses b) x → ((w : Word) → Contains (key_words o.key) w → Contains x.onward w) → ArrangedAsks s e x.expr o q → BodyAsks s b n q
-  arranged_asks e x o q fits among onward (inl h) = range_asks e x q fits among h
-  arranged_asks e x o q fits among onward (inr (v, r, h)) = key_asks e x o.key v q fits among onward r h
+  only_word : (w z : Word) → Contains (w ∷ []) z → w ≡ z
+  only_word w z c = ⊎_elim (λ e. e) (λ k. absurd (Contains-nil z k)) (Contains-cons_cases w [] z c)
 
-  mode_asks : (e : Env) (x : Expr) (m : Mode) (o : Order) (v : Value) (q : Question) → Fits e → Contains (uses b) record { expr = x; onward = key_words o.key ++ link_words m; embeds = is_embed m } → InRange s e x v → ModeAsks s m v q → BodyAsks s b n q
+  arranged_asks : (e : Env) (x : Use) (o : Order) (q : Question) → Fits e → Contains (uses b) x → ((w : Word) → Contains (key_words o.keys) w → Contains x.onward w) → ArrangedAsks s e x.expr o q → BodyAsks s b n q
+  arranged_asks e x o q fits among onward (inl h) = range_asks e x q fits among h
+  arranged_asks e x o q fits among onward (inr (v, r, (k, member, h))) =
+      key_asks e x (Some k.word) v q fits among (λ w c. onward w (subst (Contains (key_words o.keys)) (only_word k.word w c) (Contains-mapped (λ (j : SortKey). j.word) o.keys k member))) r h
+
+  mode_asks : (e : Env) (x : Expr) (m : Mode) (o : Order) (v : Value) (q : Question) → Fits e → Contains (uses b) record { expr = x; onward = key_words o.keys ++ link_words m; embeds = is_embed m } → InRange s e x v → ModeAsks s m v q → BodyAsks s b n q
   mode_asks e x (Written w) o v q fits among r h = absurd h
   mode_asks e x (Labelled label) o v q fits among r h = absurd h
   mode_asks e x Embed o v q fits among r h =
-      let usage : Use = record { expr = x; onward = key_words o.key ++ []; embeds = true } in
+      let usage : Use = record { expr = x; onward = key_words o.keys ++ []; embeds = true } in
       subst (BodyAsks s b n) (sym h) (usage, among, refl, ranges e x v fits r)
   mode_asks e x (Link word) o v q fits among r h =
-      let usage : Use = record { expr = x; onward = key_words o.key ++ key_words word; embeds = is_embed (Link word) } in
-      key_asks e usage word v q fits among (λ w k. Contains-append_right (key_words o.key) (key_words word) w k) r h
+      let usage : Use = record { expr = x; onward = key_words o.keys ++ label_words word; embeds = is_embed (Link word) } in
+      key_asks e usage word v q fits among (λ w k. Contains-append_right (key_words o.keys) (label_words word) w k) r h
 
   bound_more : (e : Env) (k : ℕ) (x : Expr) (v : Value) → Fits e → Contains (loops b) record { number = k; expr = x } → InRange s e x v → Fits (binding e k v)
   bound_more e k x v fits among r = record {
@@ -120,17 +127,25 @@ module _ (s : Site) (b : Body) (n : Value) where
   abbrev LoopsWithin : Body → Type 0
   LoopsWithin c = (l : LoopOver) → Contains (loops c) l → Contains (loops b) l
 
+  test_asks : (e : Env) (x : Expr) (test : Test) (q : Question) → Fits e → ((y : Use) → Contains (test_uses x test) y → Contains (uses b) y) → TestAsks s e x test q → BodyAsks s b n q
+  test_asks e x Any q fits us h = range_asks e (bare_use x) q fits (us (bare_use x) (Contains-here (bare_use x) [])) h
+  test_asks e x (Compares a) q fits us h = range_asks e (bare_use x) q fits (us (bare_use x) (Contains-here (bare_use x) [])) h
+  test_asks e x (Counts a) q fits us h = range_asks e (bare_use x) q fits (us (bare_use x) (Contains-here (bare_use x) [])) h
+  test_asks e x (Same y) q fits us (inl h) = range_asks e (bare_use x) q fits (us (bare_use x) (Contains-here (bare_use x) (bare_use y ∷ []))) h
+  test_asks e x (Same y) q fits us (inr h) =
+      range_asks e (bare_use y) q fits (us (bare_use y) (Contains-there (bare_use x) (bare_use y ∷ []) (bare_use y) (Contains-here (bare_use y) []))) h
+
   scene_asks : (e : Env) (c : Body) (q : Question) → Fits e → UsesWithin c → LoopsWithin c → SceneAsks s e c q → BodyAsks s b n q
   scene_asks e done q fits us ls h = absurd h
   scene_asks e (text t rest) q fits us ls h = scene_asks e rest q fits us ls h
   scene_asks e (format x m o rest) q fits us ls (inl (inl h)) =
-      let usage : Use = record { expr = x; onward = key_words o.key ++ link_words m; embeds = is_embed m } in
-      arranged_asks e usage o q fits (us usage (Contains-here usage (uses rest))) (λ w k. Contains-append_left (key_words o.key) (link_words m) w k) h
+      let usage : Use = record { expr = x; onward = key_words o.keys ++ link_words m; embeds = is_embed m } in
+      arranged_asks e usage o q fits (us usage (Contains-here usage (uses rest))) (λ w k. Contains-append_left (key_words o.keys) (link_words m) w k) h
   scene_asks e (format x m o rest) q fits us ls (inl (inr (v, r, h))) =
-      let usage : Use = record { expr = x; onward = key_words o.key ++ link_words m; embeds = is_embed m } in
+      let usage : Use = record { expr = x; onward = key_words o.keys ++ link_words m; embeds = is_embed m } in
       mode_asks e x m o v q fits (us usage (Contains-here usage (uses rest))) r h
   scene_asks e (format x m o rest) q fits us ls (inr h) =
-      let usage : Use = record { expr = x; onward = key_words o.key ++ link_words m; embeds = is_embed m } in
+      let usage : Use = record { expr = x; onward = key_words o.keys ++ link_words m; embeds = is_embed m } in
       scene_asks e rest q fits (λ y k. us y (Contains-there usage (uses rest) y k)) ls h
   scene_asks e (count x rest) q fits us ls (inl h) =
       let usage : Use = record { expr = x; onward = []; embeds = false } in
@@ -138,35 +153,31 @@ module _ (s : Site) (b : Body) (n : Value) where
   scene_asks e (count x rest) q fits us ls (inr h) =
       let usage : Use = record { expr = x; onward = []; embeds = false } in
       scene_asks e rest q fits (λ y k. us y (Contains-there usage (uses rest) y k)) ls h
-  scene_asks e (choice neg x a taken other rest) q fits us ls (inl (inl h)) =
-      let usage : Use = record { expr = x; onward = []; embeds = false } in
-      range_asks e usage q fits (us usage (Contains-here usage (uses taken ++ uses other ++ uses rest))) h
-  scene_asks e (choice neg x a taken other rest) q fits us ls (inl (inr (inl h))) =
-      let usage : Use = record { expr = x; onward = []; embeds = false } in
+  scene_asks e (choice neg x test taken other rest) q fits us ls (inl (inl h)) =
+      test_asks e x test q fits (λ y k. us y (Contains-append_left (test_uses x test) (uses taken ++ uses other ++ uses rest) y k)) h
+  scene_asks e (choice neg x test taken other rest) q fits us ls (inl (inr (inl h))) =
       scene_asks e taken q fits
-      (λ y k. us y (Contains-there usage (uses taken ++ uses other ++ uses rest) y (Contains-append_left (uses taken ++ uses other) (uses rest) y (Contains-append_left (uses taken) (uses other) y k))))
+      (λ y k. us y (Contains-append_right (test_uses x test) (uses taken ++ uses other ++ uses rest) y (Contains-append_left (uses taken ++ uses other) (uses rest) y (Contains-append_left (uses taken) (uses other) y k))))
       (λ l k. ls l (Contains-append_left (loops taken ++ loops other) (loops rest) l (Contains-append_left (loops taken) (loops other) l k))) h
-  scene_asks e (choice neg x a taken other rest) q fits us ls (inl (inr (inr h))) =
-      let usage : Use = record { expr = x; onward = []; embeds = false } in
+  scene_asks e (choice neg x test taken other rest) q fits us ls (inl (inr (inr h))) =
       scene_asks e other q fits
-      (λ y k. us y (Contains-there usage (uses taken ++ uses other ++ uses rest) y (Contains-append_left (uses taken ++ uses other) (uses rest) y (Contains-append_right (uses taken) (uses other) y k))))
+      (λ y k. us y (Contains-append_right (test_uses x test) (uses taken ++ uses other ++ uses rest) y (Contains-append_left (uses taken ++ uses other) (uses rest) y (Contains-append_right (uses taken) (uses other) y k))))
       (λ l k. ls l (Contains-append_left (loops taken ++ loops other) (loops rest) l (Contains-append_right (loops taken) (loops other) l k))) h
-  scene_asks e (choice neg x a taken other rest) q fits us ls (inr h) =
-      let usage : Use = record { expr = x; onward = []; embeds = false } in
+  scene_asks e (choice neg x test taken other rest) q fits us ls (inr h) =
       scene_asks e rest q fits
-      (λ y k. us y (Contains-there usage (uses taken ++ uses other ++ uses rest) y (Contains-append_right (uses taken ++ uses other) (uses rest) y k)))
+      (λ y k. us y (Contains-append_right (test_uses x test) (uses taken ++ uses other ++ uses rest) y (Contains-append_right (uses taken ++ uses other) (uses rest) y k)))
       (λ l k. ls l (Contains-append_right (loops taken ++ loops other) (loops rest) l k)) h
   scene_asks e (repeat k x o body rest) q fits us ls (inl (inl h)) =
-      let usage : Use = record { expr = x; onward = key_words o.key; embeds = false } in
+      let usage : Use = record { expr = x; onward = key_words o.keys; embeds = false } in
       arranged_asks e usage o q fits (us usage (Contains-here usage (uses body ++ uses rest))) (λ w z. z) h
   scene_asks e (repeat k x o body rest) q fits us ls (inl (inr (v, r, h))) =
-      let usage : Use = record { expr = x; onward = key_words o.key; embeds = false } in
+      let usage : Use = record { expr = x; onward = key_words o.keys; embeds = false } in
       let over : LoopOver = record { number = k; expr = x } in
       scene_asks (binding e k v) body q (bound_more e k x v fits (ls over (Contains-here over (loops body ++ loops rest))) r)
       (λ y z. us y (Contains-there usage (uses body ++ uses rest) y (Contains-append_left (uses body) (uses rest) y z)))
       (λ l z. ls l (Contains-there over (loops body ++ loops rest) l (Contains-append_left (loops body) (loops rest) l z))) h
   scene_asks e (repeat k x o body rest) q fits us ls (inr h) =
-      let usage : Use = record { expr = x; onward = key_words o.key; embeds = false } in
+      let usage : Use = record { expr = x; onward = key_words o.keys; embeds = false } in
       let over : LoopOver = record { number = k; expr = x } in
       scene_asks e rest q fits
       (λ y z. us y (Contains-there usage (uses body ++ uses rest) y (Contains-append_right (uses body) (uses rest) y z)))
@@ -216,9 +227,9 @@ embed_asked s f e (format x mode o rest) ps m (vs, a, b, arranged, joined, h, is
     (λ k. inr (embed_asked s f e rest b m h k)) (Contains-append_cases a b (embed m) (subst (λ l. Contains l (embed m)) is c))
 embed_asked s f e (count x rest) ps m (vs, b, listing, h, is) c =
     ⊎_elim (λ k. absurd (no_embed (decimal (length vs)) m k)) (λ k. inr (embed_asked s f e rest b m h k)) (Contains-append_cases (bytes (decimal (length vs))) b (embed m) (subst (λ l. Contains l (embed m)) is c))
-embed_asked s f e (choice neg x against taken other rest) ps m (a, b, inl (t, ha), h, is) c =
+embed_asked s f e (choice neg x test taken other rest) ps m (a, b, inl (t, ha), h, is) c =
     ⊎_elim (λ k. inl (inr (inl (embed_asked s f e taken a m ha k)))) (λ k. inr (embed_asked s f e rest b m h k)) (Contains-append_cases a b (embed m) (subst (λ l. Contains l (embed m)) is c))
-embed_asked s f e (choice neg x against taken other rest) ps m (a, b, inr (t, ha), h, is) c =
+embed_asked s f e (choice neg x test taken other rest) ps m (a, b, inr (t, ha), h, is) c =
     ⊎_elim (λ k. inl (inr (inr (embed_asked s f e other a m ha k)))) (λ k. inr (embed_asked s f e rest b m h k)) (Contains-append_cases a b (embed m) (subst (λ l. Contains l (embed m)) is c))
 embed_asked s f e (repeat k x o body rest) ps m (vs, a, b, arranged, joined, h, is) c =
     ⊎_elim

@@ -1,9 +1,12 @@
 -- What the parts of a template ask of a site, at values of their loops that are given.
-use Rattle.std.specs.Prelude.{◌≡◌, ◌⊎◌, Option, Some, None}
+use Rattle.std.specs.Prelude.{◌≡◌, ◌⊎◌, List, Option, Some, None, Contains}
 use Rattle.sd_value.specs.declared.Value.{Value}
 use Rattle.tmpl.specs.Body.{Body, done, text, format, count, choice, repeat, TemplateFile}
 use Rattle.tmpl.specs.declared.Expr.{Expr}
 use Rattle.tmpl.specs.declared.Order.{Order}
+use Rattle.tmpl.specs.declared.SortKey.{SortKey}
+use Rattle.tmpl.specs.declared.Test.{Test}
+use Rattle.tmpl.specs.declared.Test.TheVariants.{Any, Compares, Counts, Same}
 use Rattle.tmpl.specs.declared.Mode.{Mode}
 use Rattle.tmpl.specs.declared.Mode.TheVariants.{Written, Embed, Link, Labelled}
 use Rattle.tmpl.specs.declared.WordRoot.{WordRoot}
@@ -29,14 +32,23 @@ abbrev pub KeyAsks : Site → Option Word → Value → Question → Type 0
 KeyAsks s None v q = ⊥
 KeyAsks s (Some word) v q = WordAsks s (λ w. v ≡ w) word q
 
+abbrev pub KeysAsks : Site → List SortKey → Value → Question → Type 0
+KeysAsks s keys v q = (k : SortKey) × Contains keys k × KeyAsks s (Some k.word) v q
+
 abbrev pub ArrangedAsks : Site → Env → Expr → Order → Question → Type 0
-ArrangedAsks s e x o q = RangeAsks s e x q ⊎ ((v : Value) × InRange s e x v × KeyAsks s o.key v q)
+ArrangedAsks s e x o q = RangeAsks s e x q ⊎ ((v : Value) × InRange s e x v × KeysAsks s o.keys v q)
 
 abbrev pub ModeAsks : Site → Mode → Value → Question → Type 0
 ModeAsks s (Written w) v q = ⊥
 ModeAsks s Embed v q = q ≡ template v
 ModeAsks s (Link word) v q = KeyAsks s word v q
 ModeAsks s (Labelled label) v q = ⊥
+
+abbrev pub TestAsks : Site → Env → Expr → Test → Question → Type 0
+TestAsks s e x Any q = RangeAsks s e x q
+TestAsks s e x (Compares a) q = RangeAsks s e x q
+TestAsks s e x (Counts n) q = RangeAsks s e x q
+TestAsks s e x (Same y) q = RangeAsks s e x q ⊎ RangeAsks s e y q
 
 abbrev pub SceneAsks : Site → Env → Body → Question → Type 0
 SceneAsks s e done q = ⊥
@@ -45,8 +57,8 @@ SceneAsks s e (format x m o rest) q =
     (ArrangedAsks s e x o q ⊎ ((v : Value) × InRange s e x v × ModeAsks s m v q))
     ⊎ SceneAsks s e rest q
 SceneAsks s e (count x rest) q = RangeAsks s e x q ⊎ SceneAsks s e rest q
-SceneAsks s e (choice negated x against taken other rest) q =
-    (RangeAsks s e x q ⊎ (SceneAsks s e taken q ⊎ SceneAsks s e other q)) ⊎ SceneAsks s e rest q
+SceneAsks s e (choice negated x test taken other rest) q =
+    (TestAsks s e x test q ⊎ (SceneAsks s e taken q ⊎ SceneAsks s e other q)) ⊎ SceneAsks s e rest q
 SceneAsks s e (repeat k x o body rest) q =
     (ArrangedAsks s e x o q ⊎ ((v : Value) × InRange s e x v × SceneAsks s (binding e k v) body q))
     ⊎ SceneAsks s e rest q

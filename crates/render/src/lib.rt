@@ -1,10 +1,12 @@
 //! Pages over any view of a site.
 #![tactic(auto)]
 
+mod choices;
 mod compares;
 mod expansion;
 mod html;
 mod laws;
+mod order;
 mod page;
 mod pieces;
 mod values;

@@ -11,9 +11,11 @@ ghost use Rattle.render.specs.Asks.{ModeAsks, SceneAsks};
 ghost use Rattle.render.specs.Room.{Adds};
 ghost use Rattle.render.specs.Rows.{PartExpands};
 
+use crate::choices::holds;
 use crate::expansion::Expansion;
 use crate::html::{push_anchor, push_link};
-use crate::values::{arranged, holds, key, range};
+use crate::order::arranged;
+use crate::values::{key, range};
 use crate::written::push_written;
 use page_spec::Bound;
 use sd_value::{NoMemory, Str, Value, copy};
@@ -256,7 +258,7 @@ fn expand_part<V: SiteView>(
             add_count(alloc, values.len(), out)
         }
         Part::Choice(choice) => {
-            let holds = holds(alloc, view, here, loops, &choice.values, &choice.against)?;
+            let holds = holds(alloc, view, here, loops, &choice.values, &choice.test)?;
             if is_taken(holds, choice.negated) {
                 expand(alloc, view, here, loops, choice.taken.as_slice(), out)
             } else {

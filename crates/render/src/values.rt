@@ -1,21 +1,18 @@
 // The values of a template's expressions.
-ghost use Rattle.std.specs.Prelude.{◌≡◌, ◌↔◌, List, [], ◌∷◌, Contains, IfOk, IsTrue, MatchOption, map, reverse, if◌then◌else◌};
+ghost use Rattle.std.specs.Prelude.{◌≡◌, ◌↔◌, List, [], ◌∷◌, Contains, IfOk, MatchOption, Some};
 ghost use Rattle.sd_value.specs.declared.Value.{Value};
 ghost use Rattle.sd_value.specs.Order.{value_cmp};
 ghost use Rattle.sd_value.specs.Ascending.{ListsExactly};
-ghost use Rattle.page_spec.specs.Site.{Reaches, InRange, HasKey, Starts, IsBound, keyed_cmp, limited, Arranged};
-ghost use Rattle.page_spec.specs.Pieces.{HoldsBetween, TestHolds};
+ghost use Rattle.page_spec.specs.Site.{Reaches, InRange, HasKey, Starts, IsBound};
 ghost use Rattle.page_spec.specs.Question.{out as asks_out};
 ghost use Rattle.demand_spec.specs.Reads.{KeepsOnly};
-ghost use Rattle.render.specs.Asks.{WordAsks, RootAsks, RangeAsks, KeyAsks, ArrangedAsks};
-ghost use Rattle.render.specs.Rows.{HasRow};
+ghost use Rattle.render.specs.Asks.{WordAsks, RootAsks, RangeAsks, KeyAsks};
 
-use crate::compares::compares;
-use page_spec::{Bound, Keyed};
+use page_spec::Bound;
 use sd_value::{NoMemory, Str, Value, copy, sort_and_dedup};
 use site_view::SiteView;
 use std::alloc::Global;
-use tmpl::{Against, Expr, Order, Word, WordRoot};
+use tmpl::{Expr, Word, WordRoot};
 
 /// The ends of the values' edges by the label, ascending.
 fn step<V: SiteView>(
@@ -144,6 +141,26 @@ pub fn range<V: SiteView>(
     Ok(values)
 }
 
+/// The values that the word reaches from the value, ascending.
+pub fn reached_from<V: SiteView>(
+    alloc: Global,
+    view: &mut V,
+    value: &Value,
+    word: &Word,
+) -> Result<Vec<Value>, NoMemory>
+    requires own { V.Own view.old }
+    ensures own { V.Own view.new }
+    ensures fixed { V.fixed view.new ≡ V.fixed view.old }
+    ensures kept { KeepsOnly (KeyAsks (V.site (V.fixed view.old)) (Some word.now) value.now)
+        (V.kept view.old) (V.kept view.new) }
+    ensures answer { IfOk result (λ vs. ListsExactly value_cmp
+        (Reaches (V.site (V.fixed view.old)) value.now word.now) vs.items) }
+{
+    let from = alone(alloc, value)?;
+    let values = reached(alloc, view, from, word.labels())?;
+    Ok(values)
+}
+
 /// The least value that the word reaches from the value, if there is a word and it reaches one.
 pub fn key<V: SiteView>(
     alloc: Global,
@@ -161,14 +178,14 @@ pub fn key<V: SiteView>(
     match word {
         None => Ok(None),
         Some(word) => {
-            let from = alone(alloc, value)?;
-            let values = reached(alloc, view, from, word.labels())?;
+            let values = reached_from(alloc, view, value, word)?;
             Ok(first(values))
         }
     }
 }
 
-fn first(mut values: Vec<Value>) -> Option<Value>
+/// The first of the values.
+pub fn first(mut values: Vec<Value>) -> Option<Value>
     ensures { MatchOption result (values.items ≡ [])
         (λ v. (vs : List Value) × (values.items ≡ v ∷ vs)) }
 {
@@ -177,134 +194,4 @@ fn first(mut values: Vec<Value>) -> Option<Value>
     } else {
         Some(values.swap_remove(0))
     }
-}
-
-/// Whether the expression has a value, or one that compares so.
-pub fn holds<V: SiteView>(
-    alloc: Global,
-    view: &mut V,
-    here: &Value,
-    loops: &[Bound],
-    expr: &Expr,
-    against: &Option<Against>,
-) -> Result<bool, NoMemory>
-    requires own { V.Own view.old }
-    ensures own { V.Own view.new }
-    ensures fixed { V.fixed view.new ≡ V.fixed view.old }
-    ensures kept { KeepsOnly (RangeAsks (V.site (V.fixed view.old)) record {
-      here = here.now;
-      loops = loops.now;
-    } expr.now) (V.kept view.old) (V.kept view.new) }
-    ensures answer { IfOk result (λ r. IsTrue r
-        ↔ TestHolds (V.site (V.fixed view.old)) record {
-          here = here.now;
-          loops = loops.now;
-        } expr.now against.now) }
-{
-    let values = range(alloc, view, here, loops, expr)?;
-    match against {
-        None => Ok(has_any(values)),
-        Some(against) => Ok(any_compares(values.as_slice(), against)),
-    }
-}
-
-fn has_any(values: Vec<Value>) -> bool
-    ensures { IsTrue result ↔ ((v : Value) × Contains values.items v) }
-{
-    match first(values) {
-        None => false,
-        Some(_) => true,
-    }
-}
-
-fn any_compares(values: &[Value], against: &Against) -> bool
-    ensures { IsTrue result
-        ↔ ((v : Value) × Contains values.now v × HoldsBetween against.now.compare v
-        against.now.constant) }
-{
-    for value in values {
-        if compares(&against.compare, value, &against.constant) {
-            return true;
-        }
-    }
-    false
-}
-
-/// The values of the expression in this order.
-pub fn arranged<V: SiteView>(
-    alloc: Global,
-    view: &mut V,
-    here: &Value,
-    loops: &[Bound],
-    expr: &Expr,
-    order: &Order,
-) -> Result<Vec<Value>, NoMemory>
-    requires own { V.Own view.old }
-    ensures own { V.Own view.new }
-    ensures fixed { V.fixed view.new ≡ V.fixed view.old }
-    ensures kept { KeepsOnly (ArrangedAsks (V.site (V.fixed view.old)) record {
-      here = here.now;
-      loops = loops.now;
-    } expr.now order.now) (V.kept view.old) (V.kept view.new) }
-    ensures answer { IfOk result (λ vs. Arranged (V.site (V.fixed view.old)) record {
-      here = here.now;
-      loops = loops.now;
-    } expr.now order.now vs.items) }
-{
-    let values = range(alloc, view, here, loops, expr)?;
-    let rows = with_keys(alloc, view, values.as_slice(), &order.key)?;
-    let arranged = without_keys(alloc, rows)?;
-    Ok(limited(turned(arranged, order.descend), order.limit))
-}
-
-fn limited(mut values: Vec<Value>, limit: Option<usize>) -> Vec<Value>
-    ensures { result.items ≡ limited limit values.items }
-{
-    if let Some(limit) = limit {
-        values.truncate(limit);
-    }
-    values
-}
-
-fn turned(mut values: Vec<Value>, descend: bool) -> Vec<Value>
-    ensures { result.items ≡ (if descend then reverse values.items else values.items) }
-{
-    if descend {
-        values.reverse();
-    }
-    values
-}
-
-/// The values with their keys, by key.
-fn with_keys<V: SiteView>(
-    alloc: Global,
-    view: &mut V,
-    values: &[Value],
-    word: &Option<Word>,
-) -> Result<Vec<Keyed>, NoMemory>
-    requires own { V.Own view.old }
-    ensures own { V.Own view.new }
-    ensures fixed { V.fixed view.new ≡ V.fixed view.old }
-    ensures kept { KeepsOnly
-        (λ q. (v : Value) × Contains values.now v
-        × KeyAsks (V.site (V.fixed view.old)) word.now v q) (V.kept view.old) (V.kept view.new) }
-    ensures answer { IfOk result (λ rows. ListsExactly keyed_cmp
-        (λ r. (v : Value) × Contains values.now v
-        × HasRow (V.site (V.fixed view.old)) word.now v r) rows.items) }
-{
-    let mut rows = Vec::new(alloc);
-    for value in values {
-        let key = key(alloc, view, value, word)?;
-        let value = copy(alloc, value)?;
-        rows.push(Keyed { key, value })?;
-    }
-    sort_and_dedup(&mut rows);
-    Ok(rows)
-}
-
-fn without_keys(alloc: Global, rows: Vec<Keyed>) -> Result<Vec<Value>, NoMemory>
-    ensures { IfOk result (λ vs. vs.items ≡ map (λ r. r.value) rows.items) }
-{
-    let values = rows.into_iter().map(|row| row.value).collect(alloc)?;
-    Ok(values)
 }

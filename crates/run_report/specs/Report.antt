@@ -25,7 +25,7 @@ code NoMemory = 8
 code NotFound = 9
 code TurnsSpent = 10
 
--- the names of refusals of CSV, JSON, BibTeX and databases, of graphs, and of tokens and data text
+-- the names of refusals of CSV, JSON, BibTeX, databases and texts, of graphs, and of tokens and data text
 abbrev pub source_refusal_name : ℕ → List ℕ
 source_refusal_name number =
     if number == 11 then codes "TooManyEdges"
@@ -46,6 +46,8 @@ source_refusal_name number =
     else if number == 122 then codes "UnknownMacro"
     else if number == 123 then codes "TooDeep"
     else if number == 124 then codes "TooLarge"
+    else if number == 161 then codes "Expected"
+    else if number == 164 then codes "Twice"
     else if number == 171 then codes "NotDatabase"
     else if number == 172 then codes "Damaged"
     else if number == 173 then codes "NotRead"

@@ -39,6 +39,8 @@ fn source_refusal_name(number: u32) -> &'static [u8]
         122 => b"UnknownMacro",
         123 => b"TooDeep",
         124 => b"TooLarge",
+        161 => b"Expected",
+        164 => b"Twice",
         171 => b"NotDatabase",
         172 => b"Damaged",
         173 => b"NotRead",

@@ -227,7 +227,7 @@ module _ (G : DataGraph) where
         let one = first_of h.parts h.told.some in
         let parts = parts_of j.from j.label in
         let same : h.parts ≡ parts.0 = same_list value_cmp-total h.parts parts.0 h.all.ascending parts.1.ascending
-            (λ z i. parts.1.complete z (h.all.sound z i)) (λ z i. h.all.complete z (parts.1.sound z i)) in
+        (λ z i. parts.1.complete z (h.all.sound z i)) (λ z i. h.all.complete z (parts.1.sound z i)) in
         (from_to j.from j.label one.0, h.all.sound one.0 one.1, (j.to, subst (λ ps. IsTold a ps j.to) same h.told.told, refl))
 
     all_summed : AllOf (λ (j : Joint). IsSummed G c j.from j.label j.to k a)

@@ -11,8 +11,8 @@ use text_functions::fold;
 /// A value, and where it stands among others. A text is folded once, when its key is made.
 #[derive(Debug, Drop)]
 pub struct Key {
-    stands: Value,
-    value: Value,
+    pub stands: Value,
+    pub value: Value,
 }
 
 // The text as it is folded, if it is UTF-8, and else as it is.

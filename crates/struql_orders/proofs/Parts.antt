@@ -1,8 +1,7 @@
 -- Each part of an ORDER with its reader.
-use Rattle.std.proofs.Common.{◌≡◌, ℕ, Bool, true, false, List, [], ◌∷◌, ◌++◌, Option, Some, None, refl, sym, ap, ◌∙◌, subst, inl, inr, cond}
-use Rattle.std.specs.Prelude.{codes, ◌||◌, nat_eq, nat_lt, pos, negsuc, ℤ}
+use Rattle.std.proofs.Common.{◌≡◌, ℕ, Bool, true, false, List, [], ◌∷◌, ◌++◌, refl, sym, ap, ◌∙◌, subst, inl, inr}
+use Rattle.std.specs.Prelude.{codes, ◌||◌, nat_eq, pos}
 use Rattle.sd_lex.specs.declared.token.Token.{Token}
-use Rattle.sd_lex.specs.declared.token.TokenKind.{TokenKind}
 use Rattle.sd_lex.specs.declared.token.TokenKind.TheVariants as kinds
 use Rattle.sd_lex.specs.declared.token.Sign.{Sign}
 use Rattle.sd_lex.specs.declared.token.Sign.TheVariants as signs
@@ -14,19 +13,18 @@ use Rattle.grammar.proofs.Parts.{Part, Opens, ◌>>=◌, give_part, one_part, th
 use Rattle.order_spec.specs.Order as plan
 use Rattle.order_spec.specs.Order.{Order}
 use Rattle.token_reader.specs.Gives.{IsReal}
-use Rattle.token_reader.specs.Terminals.{is_sign, is_sign_kind, is_word, is_word_kind, sign, word, quoted}
+use Rattle.token_reader.specs.Terminals.{is_sign, is_word, sign, word}
 use Rattle.token_reader.proofs.Terminals.{made, sign_part, sign_opens, word_part, word_opens, quoted_part, sign_no_word, other_sign, other_word}
 use Rattle.struql_text.specs.declared.keyword.Keyword.{Keyword}
 use Rattle.struql_text.specs.declared.keyword.Keyword.TheVariants as words
 use Rattle.struql_text.specs.Terminals.{is_keyword, is_found, keyword_of}
 use Rattle.struql_text.specs.Expression.{keyword}
-use Rattle.struql_text.specs.Grammar.{collection}
 use Rattle.struql_text.specs.Reading.{read_keyword}
 use Rattle.struql_text.proofs.TokenParts.{keyword_part, keyword_opens, keyword_no_sign, other_keyword, sign_no_keyword, collection_part}
 use Rattle.struql_text.proofs.TermParts.{maybe_part}
 use Rattle.struql_orders.specs.Terminals.{count_value, begins_place}
 use Rattle.struql_orders.specs.Grammar.{label, further_label, labels, given, flag, position, next, previous, page, place, order, orders_where, orders}
-use Rattle.struql_orders.specs.Reading.{read_label, read_further_label, read_labels, read_given, read_flag, read_position, read_next, read_previous, read_page, read_place, read_order, read_where, read_orders}
+use Rattle.struql_orders.specs.Reading.{read_label, read_further_label, read_labels, read_flag, read_position, read_next, read_previous, read_page, read_place, read_order, read_where, read_orders}
 
 -- ---- labels
 

@@ -95,7 +95,10 @@ fn sum_over_at(
         key: key.text,
         key_span: key.span,
     };
-    Ok((Target::Summed(aggregate, from_to(function.span, close)), rest))
+    Ok((
+        Target::Summed(aggregate, from_to(function.span, close)),
+        rest,
+    ))
 }
 
 /// The end of `sum` with further arguments.
@@ -125,11 +128,7 @@ fn sum_of_more_at(
     ))
 }
 
-fn put_first(
-    alloc: Global,
-    first: Operand,
-    args: Vec<Operand>,
-) -> Result<Vec<Operand>, NoMemory>
+fn put_first(alloc: Global, first: Operand, args: Vec<Operand>) -> Result<Vec<Operand>, NoMemory>
     ensures { IfOk result (λ all. all.items ≡ first ∷ args.items) }
 {
     let mut args = args;
@@ -185,10 +184,22 @@ fn sum_end_at(
             if has_keyword(tokens, Keyword::Of) {
                 return sum_over_at(alloc, version, function, Word { text, span }, tokens);
             }
-            sum_term_end_at(alloc, version, function, Operand::Variable(text, span), tokens)
+            sum_term_end_at(
+                alloc,
+                version,
+                function,
+                Operand::Variable(text, span),
+                tokens,
+            )
         }
         Operand::Constant(value, span) => {
-            sum_term_end_at(alloc, version, function, Operand::Constant(value, span), tokens)
+            sum_term_end_at(
+                alloc,
+                version,
+                function,
+                Operand::Constant(value, span),
+                tokens,
+            )
         }
     }
 }

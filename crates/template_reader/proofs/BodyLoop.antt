@@ -21,7 +21,7 @@ before_single : (p : Part) (rest : Body) → before (single p) rest ≡ part_bef
 before_single (Text s) rest = refl
 before_single (Format f) rest = refl
 before_single (Count x) rest = refl
-before_single (Choice' negated values against m taken n other) rest = refl
+before_single (Choice' negated values test m taken n other) rest = refl
 before_single (Repeat' number values order n body) rest = refl
 
 -- the singles make the body

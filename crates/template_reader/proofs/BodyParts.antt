@@ -1,27 +1,30 @@
 -- The parts of bodies.
 use Rattle.std.proofs.Common.{◌≡◌, ℕ, zero, suc, ◌<◌, ◌≤◌, arith, Bool, true, false, List, [], ◌∷◌, ◌++◌, Option, Some, None, refl, sym, subst, inl, inr}
-use Rattle.std.specs.Prelude.{◌||◌, nat_eq}
+use Rattle.std.specs.Prelude.{◌||◌, nat_eq, codes}
 use Rattle.grammar.specs.Fault.{Every}
 use Rattle.grammar.specs.Grammar.{nothing, one, either, many}
 use Rattle.grammar.specs.Grammar as grammar
 use Rattle.grammar.specs.Reading.{Outcome, give}
+use Rattle.grammar.specs.Reading as reading
 use Rattle.grammar.proofs.Laws.{Always, Stops}
-use Rattle.grammar.proofs.Parts.{Part, Opens, ◌>>=◌, give_part, then_part, then_opens, weaken_part, part_within, either_part, many_part, bar_part, opens_one, opens_then, opens_either, first_is}
+use Rattle.grammar.proofs.Parts.{Part, Opens, ◌>>=◌, give_part, one_part, then_part, then_opens, weaken_part, part_within, either_part, many_part, bar_part, opens_one, opens_then, opens_either, first_is}
 use Rattle.template_items.specs.declared.item.Item.{Item}
 use Rattle.template_items.specs.declared.item.Mark.{Mark}
 use Rattle.template_items.specs.declared.item.Mark.TheVariants as marks
 use Rattle.tmpl.specs.Body.{Body, done, text, choice, repeat}
-use Rattle.tmpl.specs.declared.Against.{Against}
+use Rattle.tmpl.specs.declared.Test.{Test}
+use Rattle.tmpl.specs.declared.Test.TheVariants.{Any, Compares, Counts, Same}
+use Rattle.tmpl.specs.declared.Cmp.TheVariants.{Eq}
 use Rattle.tmpl.specs.declared.Cmp.{Cmp}
 use Rattle.tmpl.specs.declared.Expr.{Expr}
 use Rattle.template_tags.specs.declared.words.Bound.{Bound}
-use Rattle.template_tags.specs.Terminals.{number, is_mark, is_text, text_value, is_compare, compare_value, is_not, not_value, has_keyword, order_of, shown, no_settings, loop_settings, IsReal}
+use Rattle.template_tags.specs.Terminals.{keyword_of, compare_word, keyword_at, number, is_mark, is_text, text_value, is_compare, compare_value, is_same, same_value, is_count, count_value, is_not, not_value, has_keyword, order_of, shown, no_settings, loop_settings, IsReal}
 use Rattle.template_tags.specs.Tag.{mark, expr, any_expr, settings}
-use Rattle.template_reader.specs.Template.{text_part, format_part, leaf, chain, compared, not_compared, comparison, other_branch, no_other, branches, tested, negated_test, choice_rest, repeat_rest, block, body_of, body}
-use Rattle.template_reader.specs.Reading.{read_text, read_format, read_leaf, read_compared, read_not_compared, read_comparing, read_comparison, read_other_branch, read_no_other, read_ending, read_branches, read_tested, read_negated, read_choice_rest, read_repeated, read_repeat_rest, read_choice, read_repeat, read_block, is_block, is_part, read_part, read_body_of, read_body, read_block_at}
+use Rattle.template_reader.specs.Template.{text_part, format_part, same, of_values, of_count, leaf, chain, compared, not_compared, comparison, other_branch, no_other, branches, tested, negated_test, choice_rest, repeat_rest, block, body_of, body}
+use Rattle.template_reader.specs.Reading.{read_text, read_format, read_leaf, read_compared, read_not_compared, read_comparing, read_same, read_no_comparison, read_comparison, read_of_values, read_of_count, read_test, read_other_branch, read_no_other, read_ending, read_branches, read_tested, read_negated, read_choice_rest, read_repeated, read_repeat_rest, read_choice, read_repeat, read_block, is_block, is_part, read_part, read_body_of, read_body, read_block_at}
 use Rattle.template_tags.proofs.Known.{known_or}
-use Rattle.template_tags.proofs.ItemFacts.{guard, has_value, some_value, mark_part, text_item_part, constant_part, not_part, in_part, variable_part, mark_opens, text_opens, other_mark, mark_no_text, text_no_mark, compare_is_keyword, mark_is_no_compare}
-use Rattle.template_tags.proofs.WordParts.{expr_part, expr_is_no_not}
+use Rattle.template_tags.proofs.ItemFacts.{named, guard, has_value, some_value, mark_part, text_item_part, constant_part, int_part, not_part, in_part, same_part, count_part, variable_part, mark_opens, text_opens, other_mark, mark_no_text, text_no_mark, compare_is_keyword, same_is_keyword, same_is_no_compare, mark_is_no_same, mark_is_no_compare, no_keyword_no_not, no_keyword_no_count, count_is_no_not}
+use Rattle.template_tags.proofs.WordParts.{expr_part, expr_is_no_keyword}
 use Rattle.template_tags.proofs.SettingParts.{ends_setting, setting_no_dot, or_left, or_right, or_either, settings_open, settings_part}
 
 -- ---- leaves
@@ -38,9 +41,9 @@ format_part_part scope = do
   _ ← mark_part marks.OpenFormat refl
   then_opens (λ i. ends_setting i ≡ true) (expr_part scope)
       (λ e. do
-        s ← settings_part 6 no_settings
+        s ← settings_part 8 no_settings
         give_part (shown e s))
-      (λ e. opens_then (settings 6 no_settings) _ _ (settings_open 6 no_settings))
+      (λ e. opens_then (settings 8 no_settings) _ _ (settings_open 8 no_settings))
       (λ i later e. setting_no_dot (i ∷ later) e)
 
 text_part_opens : (W : Item → Type 0) → ((i : Item) → is_text i ≡ true → W i) → Opens text_part W
@@ -60,28 +63,103 @@ unfolding read_compared
 compared_part c = do
   k ← constant_part
   _ ← mark_part marks.Close refl
-  give_part (Some (record { compare = c; constant = k }))
+  give_part (Compares (record { compare = c; constant = k }))
 
 not_compared_part : Part IsReal not_compared not_compared Always read_not_compared
 unfolding read_not_compared
 not_compared_part = do
   _ ← mark_part marks.Close refl
-  give_part None
+  give_part Any
 
 not_compared_opens : (W : Item → Type 0) → ((i : Item) → is_mark marks.Close i ≡ true → W i) → Opens not_compared W
-not_compared_opens W holds = opens_then (mark marks.Close) (λ _. nothing None) W (mark_opens marks.Close W holds)
+not_compared_opens W holds = opens_then (mark marks.Close) (λ _. nothing Any) W (mark_opens marks.Close W holds)
 
-comparison_part : Part IsReal comparison comparison Always read_comparison
+-- the end of a tag may stand behind an expression
+close_ends : (i : Item) → is_mark marks.Close i ≡ true → ends_setting i ≡ true
+close_ends i = or_right (has_keyword i) (is_mark marks.Close i)
+
+keyword_ends : (i : Item) → has_keyword i ≡ true → ends_setting i ≡ true
+keyword_ends i = or_left (has_keyword i) (is_mark marks.Close i)
+
+same_values_part : (scope : List Bound) → Part IsReal (same expr scope) (same any_expr scope) Always (read_same scope)
+unfolding read_same
+same_values_part scope = do
+  _ ← same_part
+  then_opens (λ i. ends_setting i ≡ true) (expr_part scope)
+      (λ e. do
+        _ ← mark_part marks.Close refl
+        give_part (Same e))
+      (λ e. opens_then (mark marks.Close) _ _ (mark_opens marks.Close _ close_ends))
+      (λ i later e. setting_no_dot (i ∷ later) e)
+
+same_opens : (scope : List Bound) (W : Item → Type 0) → ((i : Item) → is_same i ≡ true → W i) → Opens (same any_expr scope) W
+same_opens scope W holds = opens_then (one same_value) _ W (opens_one same_value W (λ i n e. holds i (guard (is_same i) i.loops n e)))
+
+no_comparison_part : (scope : List Bound) → Part IsReal (either (same expr scope) not_compared) (either (same any_expr scope) not_compared) Always (read_no_comparison scope)
+unfolding read_no_comparison
+no_comparison_part scope =
+    either_part is_same (same_values_part scope) not_compared_part (same_opens scope _ (λ i e. e)) (not_compared_opens _ (mark_is_no_same marks.Close))
+
+no_comparison_opens : (scope : List Bound) (W : Item → Type 0) → ((i : Item) → is_same i ≡ true → W i) → ((i : Item) → is_mark marks.Close i ≡ true → W i) → Opens (either (same any_expr scope) not_compared) W
+no_comparison_opens scope W first last =
+    opens_either (same any_expr scope) not_compared W (same_opens scope W first) (not_compared_opens W last)
+
+comparison_part : (scope : List Bound) → Part IsReal (comparison expr scope) (comparison any_expr scope) Always (read_comparison scope)
 unfolding read_comparison read_comparing
-comparison_part =
-    known_or compare_value is_compare (λ i c e. has_value (compare_value i) c e) (λ i e. some_value (compare_value i) e) compared_part not_compared_part
-    (λ x v rest h _. first_is not_compared is_compare false (not_compared_opens (λ i. is_compare i ≡ false) (mark_is_no_compare marks.Close)) x v rest h)
+comparison_part scope =
+    known_or compare_value is_compare (λ i c e. has_value (compare_value i) c e) (λ i e. some_value (compare_value i) e) compared_part (no_comparison_part scope)
+    (λ x v rest h _. first_is (either (same any_expr scope) not_compared) is_compare false (no_comparison_opens scope (λ i. is_compare i ≡ false) same_is_no_compare (mark_is_no_compare marks.Close)) x v rest h)
 
-comparison_opens : Opens comparison (λ i. ends_setting i ≡ true)
-comparison_opens =
-    opens_either (grammar.◌>>=◌ (one compare_value) compared) not_compared (λ i. ends_setting i ≡ true)
-    (opens_then (one compare_value) compared (λ i. ends_setting i ≡ true) (opens_one compare_value (λ i. ends_setting i ≡ true) (λ i c e. or_left (has_keyword i) (is_mark marks.Close i) (compare_is_keyword i (has_value (compare_value i) c e)))))
-    (not_compared_opens (λ i. ends_setting i ≡ true) (λ i. or_right (has_keyword i) (is_mark marks.Close i)))
+compare_opens : (W : Item → Type 0) → ((i : Item) → is_compare i ≡ true → W i) → Opens (one compare_value) W
+compare_opens W holds = opens_one compare_value W (λ i c e. holds i (has_value (compare_value i) c e))
+
+comparison_opens : (scope : List Bound) → Opens (comparison any_expr scope) (λ i. ends_setting i ≡ true)
+comparison_opens scope =
+    opens_either (grammar.◌>>=◌ (one compare_value) compared) (either (same any_expr scope) not_compared) (λ i. ends_setting i ≡ true)
+    (opens_then (one compare_value) compared (λ i. ends_setting i ≡ true) (compare_opens (λ i. ends_setting i ≡ true) (λ i e. keyword_ends i (compare_is_keyword i e))))
+    (no_comparison_opens scope (λ i. ends_setting i ≡ true) (λ i e. keyword_ends i (same_is_keyword i e)) close_ends)
+
+-- ---- tests
+
+of_values_part : (scope : List Bound) → Part IsReal (of_values expr scope) (of_values any_expr scope) Always (read_of_values scope)
+unfolding read_of_values
+of_values_part scope =
+    then_opens (λ i. ends_setting i ≡ true) (expr_part scope)
+    (λ e. do
+      t ← comparison_part scope
+      give_part (e, t))
+    (λ e. opens_then (comparison any_expr scope) _ _ (comparison_opens scope))
+    (λ i later e. setting_no_dot (i ∷ later) e)
+
+compare_part : Part IsReal (one compare_value) (one compare_value) Always (reading.take_one true compare_value)
+unfolding keyword_of compare_word
+compare_part = one_part compare_value (named (codes "EQ")) Eq refl (codes "EQ", (refl, (refl, (refl, tt))))
+
+of_count_part : (scope : List Bound) → Part IsReal (of_count expr scope) (of_count any_expr scope) Always (read_of_count scope)
+unfolding read_of_count
+of_count_part scope = do
+  _ ← count_part
+  then_opens (λ i. ends_setting i ≡ true) (expr_part scope)
+      (λ e. do
+        c ← compare_part
+        n ← int_part
+        _ ← mark_part marks.Close refl
+        give_part (e, Counts (record { compare = c; constant = n })))
+      (λ e. opens_then (one compare_value) _ _ (compare_opens _ (λ i is. keyword_ends i (compare_is_keyword i is))))
+      (λ i later e. setting_no_dot (i ∷ later) e)
+
+of_count_opens : (scope : List Bound) (W : Item → Type 0) → ((i : Item) → is_count i ≡ true → W i) → Opens (of_count any_expr scope) W
+of_count_opens scope W holds = opens_then (one count_value) _ W (opens_one count_value W (λ i n e. holds i (guard (is_count i) i.loops n e)))
+
+of_values_opens : (scope : List Bound) (W : Item → Type 0) → ((i : Item) → keyword_at i ≡ None → W i) → Opens (of_values any_expr scope) W
+of_values_opens scope W holds = opens_then (any_expr scope) _ W (expr_is_no_keyword scope W holds)
+
+test_part : (scope : List Bound) → Part IsReal (either (of_count expr scope) (of_values expr scope)) (either (of_count any_expr scope) (of_values any_expr scope)) Always (read_test scope)
+unfolding read_test
+test_part scope = either_part is_count (of_count_part scope) (of_values_part scope) (of_count_opens scope _ (λ i e. e)) (of_values_opens scope _ no_keyword_no_count)
+
+test_is_no_not : (scope : List Bound) → Opens (either (of_count any_expr scope) (of_values any_expr scope)) (λ i. is_not i ≡ false)
+test_is_no_not scope = opens_either (of_count any_expr scope) (of_values any_expr scope) _ (of_count_opens scope _ count_is_no_not) (of_values_opens scope _ no_keyword_no_not)
 
 -- ---- tags that hold bodies
 
@@ -122,13 +200,13 @@ module _ {I V : List Item → Body → Type 0} {read : List Item → Outcome Ite
       either_part (is_mark marks.Otherwise) other_branch_part no_other_part (other_branch_opens V _ (λ i e. e))
       (no_other_opens _ (other_mark marks.EndChoice marks.Otherwise refl))
 
-  branches_part : (negated : Bool) (e : Expr) (a : Option Against) → Part IsReal (branches I negated e a) (branches V negated e a) Always (read_branches read negated e a)
+  branches_part : (negated : Bool) (t : Expr × Test) → Part IsReal (branches I negated t) (branches V negated t) Always (read_branches read negated t)
   unfolding read_branches
-  branches_part negated e a =
+  branches_part negated t =
       then_opens (λ i. is_part i ≡ false) inner
       (λ taken. do
         other ← ending_part
-        give_part (choice negated e a taken other done))
+        give_part (choice negated t.0 t.1 taken other done))
       (λ taken. opens_then (either (other_branch V) no_other) _ _
       (opens_either (other_branch V) no_other _ (other_branch_opens V _ (ends_body marks.Otherwise refl refl refl)) (no_other_opens _ (ends_body marks.EndChoice refl refl refl))))
       (λ i later e. e)
@@ -136,13 +214,9 @@ module _ {I V : List Item → Body → Type 0} {read : List Item → Outcome Ite
 module _ {I V : List Bound → List Item → Body → Type 0} {read : List Bound → List Item → Outcome Item Body} (inner : (scope : List Bound) → Part IsReal (I scope) (V scope) AfterBody (read scope)) where
   tested_part : (scope : List Bound) (negated : Bool) → Part IsReal (tested expr I scope negated) (tested any_expr V scope negated) Always (read_tested read scope negated)
   unfolding read_tested
-  tested_part scope negated =
-      then_opens (λ i. ends_setting i ≡ true) (expr_part scope)
-      (λ e. do
-        a ← comparison_part
-        branches_part (inner scope) negated e a)
-      (λ e. opens_then comparison _ _ comparison_opens)
-      (λ i later e. setting_no_dot (i ∷ later) e)
+  tested_part scope negated = do
+    t ← test_part scope
+    branches_part (inner scope) negated t
 
   negated_part : (scope : List Bound) → Part IsReal (negated_test expr I scope) (negated_test any_expr V scope) Always (read_negated read scope)
   unfolding read_negated
@@ -155,7 +229,7 @@ module _ {I V : List Bound → List Item → Body → Type 0} {read : List Bound
   choice_rest_part scope =
       either_part is_not (negated_part scope) (tested_part scope false)
       (opens_then (one not_value) _ _ (opens_one not_value _ (λ i n e. guard (is_not i) i.loops n e)))
-      (opens_then (any_expr scope) _ _ (expr_is_no_not scope))
+      (opens_then (either (of_count any_expr scope) (of_values any_expr scope)) _ _ (test_is_no_not scope))
 
   repeat_rest_part : (scope : List Bound) (n : ℕ) → Part IsReal (repeat_rest expr I scope n) (repeat_rest any_expr V scope n) Always (read_repeat_rest read scope n)
   unfolding read_repeat_rest read_repeated
@@ -164,14 +238,14 @@ module _ {I V : List Bound → List Item → Body → Type 0} {read : List Bound
     _ ← in_part
     then_opens (λ i. ends_setting i ≡ true) (expr_part scope)
         (λ e. do
-          s ← settings_part 4 loop_settings
+          s ← settings_part 6 loop_settings
           then_opens (λ i. is_mark marks.EndRepeat i ≡ true) (inner (scope ++ record { name = name; number = n } ∷ []))
               (λ b. do
                 _ ← mark_part marks.EndRepeat refl
                 give_part (repeat n e (order_of s) b done))
               (λ b. opens_then (mark marks.EndRepeat) _ _ (mark_opens marks.EndRepeat _ (λ i e. e)))
               (λ i later e. ends_body marks.EndRepeat refl refl refl i e))
-        (λ e. opens_then (settings 4 loop_settings) _ _ (settings_open 4 loop_settings))
+        (λ e. opens_then (settings 6 loop_settings) _ _ (settings_open 6 loop_settings))
         (λ i later e. setting_no_dot (i ∷ later) e)
 
   choice_part : (scope : List Bound) → Part IsReal (grammar.◌>>=◌ (mark marks.OpenChoice) (λ _. choice_rest expr I scope)) (grammar.◌>>=◌ (mark marks.OpenChoice) (λ _. choice_rest any_expr V scope)) Always (read_choice read scope)
@@ -223,11 +297,11 @@ module _ (I J : List Bound → List Item → Body → Type 0) (more : (s : List 
   ending_map s x v (inl h) = let k = h.5 in inl (h.0, h.1, h.2, h.3, h.4, (k.0, k.1, k.2, k.3, more s k.0 k.2 k.4, k.5))
   ending_map s x v (inr h) = inr h
 
-  branches_map : (s : List Bound) (n : Bool) (e : Expr) (a : Option Against) (x : List Item) (v : Body) → branches (I s) n e a x v → branches (J s) n e a x v
-  branches_map s n e a x v h = let k = h.5 in (h.0, h.1, h.2, h.3, more s h.0 h.2 h.4, (k.0, k.1, k.2, k.3, ending_map s k.0 k.2 k.4, k.5))
+  branches_map : (s : List Bound) (n : Bool) (t : Expr × Test) (x : List Item) (v : Body) → branches (I s) n t x v → branches (J s) n t x v
+  branches_map s n t x v h = let k = h.5 in (h.0, h.1, h.2, h.3, more s h.0 h.2 h.4, (k.0, k.1, k.2, k.3, ending_map s k.0 k.2 k.4, k.5))
 
   tested_map : (s : List Bound) (n : Bool) (x : List Item) (v : Body) → tested any_expr I s n x v → tested any_expr J s n x v
-  tested_map s n x v h = let k = h.5 in (h.0, h.1, h.2, h.3, h.4, (k.0, k.1, k.2, k.3, k.4, branches_map s n h.2 k.2 k.1 v k.5))
+  tested_map s n x v h = (h.0, h.1, h.2, h.3, h.4, branches_map s n h.2 h.1 v h.5)
 
   choice_rest_map : (s : List Bound) (x : List Item) (v : Body) → choice_rest any_expr I s x v → choice_rest any_expr J s x v
   choice_rest_map s x v (inl h) = inl (h.0, h.1, h.2, h.3, h.4, tested_map s true h.1 v h.5)

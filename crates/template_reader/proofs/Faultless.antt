@@ -1,6 +1,7 @@
 -- What spells templates has no item that marks a fault.
 use Rattle.std.proofs.Common.{◌≡◌, inl, inr, ℕ, zero, suc, Bool, true, false, cond, List, [], ◌∷◌, ◌++◌, Option, Some, None, refl, sym, ap, subst, ◌∙◌}
 use Rattle.std.specs.Prelude.{nat_eq, ◌&&◌}
+use Rattle.std.specs.Option.{is_none}
 use Rattle.std.proofs.lemmas.Bool.{eqb-true}
 use Rattle.grammar.specs.Grammar.{nothing, one, either, many}
 use Rattle.grammar.specs.Grammar as grammar
@@ -12,7 +13,8 @@ use Rattle.template_items.specs.declared.item.ItemKind.TheVariants as kinds
 use Rattle.template_items.specs.declared.item.Mark.{Mark}
 use Rattle.template_items.specs.declared.item.Mark.TheVariants as marks
 use Rattle.tmpl.specs.Body.{Body, done, text, choice, repeat}
-use Rattle.tmpl.specs.declared.Against.{Against}
+use Rattle.tmpl.specs.declared.Test.{Test}
+use Rattle.tmpl.specs.declared.Test.TheVariants.{Any, Compares, Counts, Same}
 use Rattle.tmpl.specs.declared.Cmp.{Cmp}
 use Rattle.tmpl.specs.declared.Expr.{Expr}
 use Rattle.tmpl.specs.declared.Mode.TheVariants.{Written, Embed, Link, Labelled}
@@ -22,9 +24,9 @@ use Rattle.template_tags.specs.declared.settings.Setting.{Setting}
 use Rattle.template_tags.specs.declared.settings.Setting.TheVariants as setting
 use Rattle.template_tags.specs.declared.settings.Settings.{Settings}
 use Rattle.template_tags.specs.declared.settings.Showing.TheVariants.{Each, HowMany}
-use Rattle.template_tags.specs.Terminals.{number, is_mark_kind, text_value, dot_value, equals_value, name_value, quoted_value, label_value, joined_value, constant_value, direction_value, not_value, in_value, compare_value, limit_value, setting_value, order_of, shown, no_settings, loop_settings, variable_value, known_value}
-use Rattle.template_tags.specs.Tag.{mark, dotted, word, joined_word, from, here, here_of, collection, of_loop, expr, with_mode, with_key, with_order, with_limit, with_delimiter, setting_key, setting_order, setting_limit, setting_delimiter, setting_found, setting_label, set, no_more_settings, settings}
-use Rattle.template_reader.specs.Template.{text_part, chain, body_of, compared, not_compared, comparison, no_other, other_branch, branches, format_part, leaf, tested, negated_test, choice_rest, repeat_rest, block, body, Entry, is_sort, named_value, collection_head, function_head, head_rest, template, within}
+use Rattle.template_tags.specs.Terminals.{number, is_mark_kind, text_value, dot_value, equals_value, name_value, quoted_value, label_value, joined_value, constant_value, direction_value, not_value, in_value, compare_value, same_value, count_value, int_value, fold_value, descend_value, limit_value, setting_value, order_of, shown, no_settings, loop_settings, variable_value, known_value}
+use Rattle.template_tags.specs.Tag.{mark, dotted, word, joined_word, from, here, here_of, collection, of_loop, expr, with_mode, with_key, with_order, with_limit, with_delimiter, flag, setting_key, setting_order, setting_limit, setting_delimiter, setting_found, setting_label, set, no_more_settings, settings}
+use Rattle.template_reader.specs.Template.{text_part, chain, body_of, compared, not_compared, same, comparison, of_values, of_count, no_other, other_branch, branches, format_part, leaf, tested, negated_test, choice_rest, repeat_rest, block, body, Entry, is_sort, named_value, collection_head, function_head, head_rest, template, within}
 
 -- an item that marks no fault
 abbrev pub IsNoFault : Item → Type 0
@@ -158,11 +160,19 @@ expr_kept scope = or (single (known_value scope) (λ i m. refl) >>= of_loop_kept
 
 -- ---- settings
 
+flag_kept : (value : Item → Option ℕ) → ((i : Item) (m : Mark) → value (record i { kind = kinds.Mark m }) ≡ None) → Keeps (flag value)
+flag_kept value none = or (single value none >>= λ _. give true) (give false)
+
+no_descend : (s : Settings) (i : Item) (m : Mark) → descend_value s (record i { kind = kinds.Mark m }) ≡ None
+no_descend s i m = and_false (is_none s.descend) i.loops
+
 key_kept : (s : Settings) → Keeps (setting_key s)
 key_kept s = do
   _ ← equals
   w ← word_kept
-  give (with_key s w)
+  f ← flag_kept fold_value (λ i m. refl)
+  d ← flag_kept (descend_value s) (no_descend s)
+  give (with_key s (record { word = w; fold = f; descend = d }))
 
 order_kept : (s : Settings) → Keeps (setting_order s)
 order_kept s = do
@@ -225,7 +235,7 @@ format_kept : (scope : List Bound) → Keeps (format_part expr scope)
 format_kept scope = do
   _ ← marked marks.OpenFormat refl
   e ← expr_kept scope
-  s ← settings_kept 6 no_settings
+  s ← settings_kept 8 no_settings
   give (shown e s)
 
 leaf_kept : (scope : List Bound) → Keeps (leaf expr scope)
@@ -240,15 +250,38 @@ compared_kept : (c : Cmp) → Keeps (compared c)
 compared_kept c = do
   k ← single constant_value (λ i m. refl)
   _ ← marked marks.Close refl
-  give (Some (record { compare = c; constant = k }))
+  give (Compares (record { compare = c; constant = k }))
 
 not_compared_kept : Keeps not_compared
 not_compared_kept = do
   _ ← marked marks.Close refl
-  give None
+  give Any
 
-comparison_kept : Keeps comparison
-comparison_kept = or (single compare_value (λ i m. refl) >>= compared_kept) not_compared_kept
+same_kept : (scope : List Bound) → Keeps (same expr scope)
+same_kept scope = do
+  _ ← single same_value (λ i m. refl)
+  e ← expr_kept scope
+  _ ← marked marks.Close refl
+  give (Same e)
+
+comparison_kept : (scope : List Bound) → Keeps (comparison expr scope)
+comparison_kept scope =
+    or (single compare_value (λ i m. refl) >>= compared_kept) (or (same_kept scope) not_compared_kept)
+
+of_values_kept : (scope : List Bound) → Keeps (of_values expr scope)
+of_values_kept scope = do
+  e ← expr_kept scope
+  t ← comparison_kept scope
+  give (e, t)
+
+of_count_kept : (scope : List Bound) → Keeps (of_count expr scope)
+of_count_kept scope = do
+  _ ← single count_value (λ i m. refl)
+  e ← expr_kept scope
+  c ← single compare_value (λ i m. refl)
+  n ← single int_value (λ i m. refl)
+  _ ← marked marks.Close refl
+  give (e, Counts (record { compare = c; constant = n }))
 
 no_other_kept : Keeps no_other
 no_other_kept = do
@@ -263,18 +296,17 @@ module _ (B : List Item → Body → Type 0) (kept : Keeps B) where
     _ ← marked marks.EndChoice refl
     give other
 
-  branches_kept : (negated : Bool) (e : Expr) (a : Option Against) → Keeps (branches B negated e a)
-  branches_kept negated e a = do
+  branches_kept : (negated : Bool) (t : Expr × Test) → Keeps (branches B negated t)
+  branches_kept negated t = do
     taken ← kept
     other ← or other_kept no_other_kept
-    give (choice negated e a taken other done)
+    give (choice negated t.0 t.1 taken other done)
 
 module _ (B : List Bound → List Item → Body → Type 0) (kept : (scope : List Bound) → Keeps (B scope)) where
   tested_kept : (scope : List Bound) (negated : Bool) → Keeps (tested expr B scope negated)
   tested_kept scope negated = do
-    e ← expr_kept scope
-    a ← comparison_kept
-    branches_kept (B scope) (kept scope) negated e a
+    t ← or (of_count_kept scope) (of_values_kept scope)
+    branches_kept (B scope) (kept scope) negated t
 
   negated_kept : (scope : List Bound) → Keeps (negated_test expr B scope)
   negated_kept scope = do
@@ -289,7 +321,7 @@ module _ (B : List Bound → List Item → Body → Type 0) (kept : (scope : Lis
     name ← single variable_value (λ i m. refl)
     _ ← single in_value (λ i m. refl)
     e ← expr_kept scope
-    s ← settings_kept 4 loop_settings
+    s ← settings_kept 6 loop_settings
     inner ← kept (scope ++ record { name = name; number = number } ∷ [])
     _ ← marked marks.EndRepeat refl
     give (repeat number e (order_of s) inner done)

@@ -6,13 +6,15 @@ use Rattle.std.specs.Option.{is_some}
 use Rattle.template_items.specs.declared.item.Item.{Item}
 use Rattle.template_items.specs.declared.item.Mark.TheVariants as marks
 use Rattle.tmpl.specs.Body.{Body, done, text, choice, repeat}
-use Rattle.tmpl.specs.declared.Against.{Against}
+use Rattle.tmpl.specs.declared.Test.{Test}
+use Rattle.tmpl.specs.declared.Test.TheVariants.{Any, Compares, Counts, Same}
 use Rattle.tmpl.specs.declared.Cmp.{Cmp}
 use Rattle.tmpl.specs.declared.Expr.{Expr}
 use Rattle.tmpl.specs.declared.Order.{Order}
 use Rattle.template_tags.specs.declared.words.Bound.{Bound}
 use Rattle.template_tags.specs.Terminals.{is_mark, is_text, text_value, name_value, constant_value, is_not, not_value}
 use Rattle.template_tags.specs.Terminals.{in_value, is_compare, compare_value, order_of, shown, no_settings}
+use Rattle.template_tags.specs.Terminals.{is_same, same_value, is_count, count_value, int_value}
 use Rattle.template_tags.specs.Terminals.{loop_settings, variable_value}
 use Rattle.template_reader.specs.Template.{chain, Entry, Head, named_value}
 use Rattle.template_tags.specs.Reading.{read_mark, read_expr, read_settings}
@@ -30,7 +32,7 @@ unfoldable pub read_format : List Bound → List Item → Outcome Item Body
 read_format scope = do
   read_mark marks.OpenFormat
   e ← read_expr scope
-  s ← read_settings 6 no_settings
+  s ← read_settings 8 no_settings
   give (shown e s)
 
 -- a part without a body
@@ -38,27 +40,60 @@ unfoldable pub read_leaf : List Bound → List Item → Outcome Item Body
 read_leaf scope = choose is_text read_text (read_format scope)
 
 -- a comparison's right side
-unfoldable pub read_compared : Cmp → List Item → Outcome Item (Option Against)
+unfoldable pub read_compared : Cmp → List Item → Outcome Item Test
 read_compared c = do
   k ← take_one true constant_value
   read_mark marks.Close
-  give (Some (record { compare = c; constant = k }))
+  give (Compares (record { compare = c; constant = k }))
 
 -- no comparison
-unfoldable pub read_not_compared : List Item → Outcome Item (Option Against)
+unfoldable pub read_not_compared : List Item → Outcome Item Test
 read_not_compared = do
   read_mark marks.Close
-  give None
+  give Any
 
 -- a comparison and its right side
-unfoldable pub read_comparing : List Item → Outcome Item (Option Against)
+unfoldable pub read_comparing : List Item → Outcome Item Test
 read_comparing = do
   c ← take_one true compare_value
   read_compared c
 
--- the comparison, if there is one, and the end of the tag
-unfoldable pub read_comparison : List Item → Outcome Item (Option Against)
-read_comparison = choose is_compare read_comparing read_not_compared
+-- SAME, another expression, and the end of the tag
+unfoldable pub read_same : List Bound → List Item → Outcome Item Test
+read_same scope = do
+  take_one true same_value
+  e ← read_expr scope
+  read_mark marks.Close
+  give (Same e)
+
+-- SAME or nothing, and the end of the tag
+unfoldable pub read_no_comparison : List Bound → List Item → Outcome Item Test
+read_no_comparison scope = choose is_same (read_same scope) read_not_compared
+
+-- what is asked of an expression's values, and the end of the tag
+unfoldable pub read_comparison : List Bound → List Item → Outcome Item Test
+read_comparison scope = choose is_compare read_comparing (read_no_comparison scope)
+
+-- a test of an expression's values
+unfoldable pub read_of_values : List Bound → List Item → Outcome Item (Expr × Test)
+read_of_values scope = do
+  e ← read_expr scope
+  t ← read_comparison scope
+  give (e, t)
+
+-- a test of their number
+unfoldable pub read_of_count : List Bound → List Item → Outcome Item (Expr × Test)
+read_of_count scope = do
+  take_one true count_value
+  e ← read_expr scope
+  c ← take_one true compare_value
+  n ← take_one true int_value
+  read_mark marks.Close
+  give (e, Counts (record { compare = c; constant = n }))
+
+-- a test
+unfoldable pub read_test : List Bound → List Item → Outcome Item (Expr × Test)
+read_test scope = choose is_count (read_of_count scope) (read_of_values scope)
 
 -- no other branch
 unfoldable pub read_no_other : List Item → Outcome Item Body
@@ -80,19 +115,18 @@ module _ (body : List Item → Outcome Item Body) where
   read_ending = choose (is_mark marks.Otherwise) read_other_branch read_no_other
 
   -- the branches of a choice
-  unfoldable pub read_branches : Bool → Expr → Option Against → List Item → Outcome Item Body
-  read_branches negated e a = do
+  unfoldable pub read_branches : Bool → Expr × Test → List Item → Outcome Item Body
+  read_branches negated t = do
     taken ← body
     other ← read_ending
-    give (choice negated e a taken other done)
+    give (choice negated t.0 t.1 taken other done)
 
 module _ (body : List Bound → List Item → Outcome Item Body) where
   -- a test, and the branches
   unfoldable pub read_tested : List Bound → Bool → List Item → Outcome Item Body
   read_tested scope negated = do
-    e ← read_expr scope
-    a ← read_comparison
-    read_branches (body scope) negated e a
+    t ← read_test scope
+    read_branches (body scope) negated t
 
   -- the same with `NOT`
   unfoldable pub read_negated : List Bound → List Item → Outcome Item Body
@@ -117,7 +151,7 @@ module _ (body : List Bound → List Item → Outcome Item Body) where
     name ← take_one true variable_value
     take_one true in_value
     e ← read_expr scope
-    s ← read_settings 4 loop_settings
+    s ← read_settings 6 loop_settings
     read_repeated scope (record { name = name; number = number }) e (order_of s)
 
   -- a choice

@@ -4,7 +4,8 @@
 --   template := "<TEMPLATE" ( Name | "COLLECTION" label ) ">" body "</TEMPLATE>"
 --   body     := { text | format | choice | repeat }
 --   format   := "<SFMT" expr { setting } ">"        (setting and order are those of a tag's grammar)
---   choice   := "<SIF" [ "NOT" ] expr [ compare constant ] ">" body [ "<SELSE>" body ] "</SIF>"
+--   choice   := "<SIF" [ "NOT" ] test ">" body [ "<SELSE>" body ] "</SIF>"
+--   test     := expr [ compare constant | "SAME" expr ] | "COUNT" expr compare Int
 --   repeat   := "<SFOR" Name "IN" expr { order } ">" body "</SFOR>"
 --   expr     := "@" [ word ] | "#" label [ "." word ] | Name [ "." word ]
 --   word     := label { "." label }                label := Name | Quoted
@@ -14,12 +15,14 @@ use Rattle.grammar.specs.Grammar.{nothing, one, ◌>>=◌, ◌>>◌, either, man
 use Rattle.template_items.specs.declared.item.Item.{Item}
 use Rattle.template_items.specs.declared.item.Mark.TheVariants as marks
 use Rattle.tmpl.specs.Body.{Body, done, part_before, text, format, count, choice, repeat}
-use Rattle.tmpl.specs.declared.Against.{Against}
 use Rattle.tmpl.specs.declared.Cmp.{Cmp}
 use Rattle.tmpl.specs.declared.Expr.{Expr}
 use Rattle.tmpl.specs.declared.Part.{Part}
+use Rattle.tmpl.specs.declared.Test.{Test}
+use Rattle.tmpl.specs.declared.Test.TheVariants.{Any, Compares, Counts, Same}
 use Rattle.template_tags.specs.declared.words.Bound.{Bound}
 use Rattle.template_tags.specs.Terminals.{text_value, name_value, label_value, constant_value, not_value, in_value, compare_value}
+use Rattle.template_tags.specs.Terminals.{same_value, count_value, int_value}
 use Rattle.template_tags.specs.Terminals.{order_of, shown, no_settings, loop_settings, variable_value}
 use Rattle.template_tags.specs.Tag.{mark, expr, any_expr, settings}
 
@@ -56,21 +59,17 @@ body_of part = do
   nothing (chain parts)
 
 -- a comparison and its right side
-abbrev pub compared : Cmp → List Item → Option Against → Type 0
+abbrev pub compared : Cmp → List Item → Test → Type 0
 compared c = do
   k ← one constant_value
   mark marks.Close
-  nothing (Some (record { compare = c; constant = k }))
+  nothing (Compares (record { compare = c; constant = k }))
 
 -- no comparison
-abbrev pub not_compared : List Item → Option Against → Type 0
+abbrev pub not_compared : List Item → Test → Type 0
 not_compared = do
   mark marks.Close
-  nothing None
-
--- the comparison, if there is one, and the end of the tag
-abbrev pub comparison : List Item → Option Against → Type 0
-comparison = either (one compare_value >>= compared) not_compared
+  nothing Any
 
 -- no other branch
 abbrev pub no_other : List Item → Body → Type 0
@@ -89,11 +88,11 @@ module _ (body : List Item → Body → Type 0) where
     nothing other
 
   -- the branches of a choice that is tested so
-  abbrev pub branches : Bool → Expr → Option Against → List Item → Body → Type 0
-  branches negated e a = do
+  abbrev pub branches : Bool → Expr × Test → List Item → Body → Type 0
+  branches negated t = do
     taken ← body
     other ← either other_branch no_other
-    nothing (choice negated e a taken other done)
+    nothing (choice negated t.0 t.1 taken other done)
 
 -- `E` is what an expression is.
 module _ (E : List Bound → List Item → Expr → Type 0) where
@@ -102,8 +101,37 @@ module _ (E : List Bound → List Item → Expr → Type 0) where
   format_part scope = do
     mark marks.OpenFormat
     e ← E scope
-    s ← settings 6 no_settings
+    s ← settings 8 no_settings
     nothing (shown e s)
+
+  -- SAME, another expression, and the end of the tag
+  abbrev pub same : List Bound → List Item → Test → Type 0
+  same scope = do
+    one same_value
+    e ← E scope
+    mark marks.Close
+    nothing (Same e)
+
+  -- what is asked of an expression's values, and the end of the tag
+  abbrev pub comparison : List Bound → List Item → Test → Type 0
+  comparison scope = either (one compare_value >>= compared) (either (same scope) not_compared)
+
+  -- a test of an expression's values
+  abbrev pub of_values : List Bound → List Item → Expr × Test → Type 0
+  of_values scope = do
+    e ← E scope
+    t ← comparison scope
+    nothing (e, t)
+
+  -- a test of their number
+  abbrev pub of_count : List Bound → List Item → Expr × Test → Type 0
+  of_count scope = do
+    one count_value
+    e ← E scope
+    c ← one compare_value
+    n ← one int_value
+    mark marks.Close
+    nothing (e, Counts (record { compare = c; constant = n }))
 
   -- a part without a body
   abbrev pub leaf : List Bound → List Item → Body → Type 0
@@ -114,9 +142,8 @@ module _ (E : List Bound → List Item → Expr → Type 0) where
     -- a tag that tests, with its branches
     abbrev pub tested : List Bound → Bool → List Item → Body → Type 0
     tested scope negated = do
-      e ← E scope
-      a ← comparison
-      branches (body scope) negated e a
+      t ← either (of_count scope) (of_values scope)
+      branches (body scope) negated t
 
     -- the same with `NOT`
     abbrev pub negated_test : List Bound → List Item → Body → Type 0
@@ -134,7 +161,7 @@ module _ (E : List Bound → List Item → Expr → Type 0) where
       name ← one variable_value
       one in_value
       e ← E scope
-      s ← settings 4 loop_settings
+      s ← settings 6 loop_settings
       inner ← body (scope ++ record { name = name; number = number } ∷ [])
       mark marks.EndRepeat
       nothing (repeat number e (order_of s) inner done)

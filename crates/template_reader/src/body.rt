@@ -9,7 +9,8 @@ ghost use Rattle.token_reader.specs.Gives.{Gives};
 ghost use Rattle.template_tags.specs.Terminals.{no_settings, loop_settings};
 ghost use Rattle.template_reader.specs.Template.{chain};
 ghost use Rattle.template_reader.specs.Reading.{read_text, read_format, read_leaf, read_compared, read_not_compared};
-ghost use Rattle.template_reader.specs.Reading.{read_comparing, read_comparison, read_other_branch, read_no_other};
+ghost use Rattle.template_reader.specs.Reading.{read_comparing, read_same, read_no_comparison, read_comparison};
+ghost use Rattle.template_reader.specs.Reading.{read_of_values, read_of_count, read_test, read_other_branch, read_no_other};
 ghost use Rattle.template_reader.specs.Reading.{read_ending, read_branches, read_tested, read_negated};
 ghost use Rattle.template_reader.specs.Reading.{read_choice_rest, read_repeated, read_repeat_rest, read_choice};
 ghost use Rattle.template_reader.specs.Reading.{read_repeat, read_block, is_block, is_part, read_part, read_body_of};
@@ -19,10 +20,11 @@ use sd_value::{NoMemory, Str};
 use std::alloc::Global;
 use template_items::{Item, Mark};
 use template_tags::{
-    Bound, Settings, Showing, compare_at, constant_at, expression_at, has_compare, has_mark,
-    has_not, has_text, in_at, mark_at, not_at, order_of, settings_at, shown, text_at, variable_at,
+    Bound, Settings, Showing, compare_at, constant_at, count_at, expression_at, has_compare,
+    has_count, has_mark, has_not, has_same, has_text, in_at, int_at, mark_at, not_at, order_of,
+    same_at, settings_at, shown, text_at, variable_at,
 };
-use tmpl::{Against, Choice, Expr, Mode, Order, Part, Repeat, Writing};
+use tmpl::{Against, Choice, Expr, Mode, Number, Order, Part, Repeat, SortKeys, Test, Writing};
 use token_reader::Halt;
 
 #[tactic(auto, unfolding(crate::specs::Reading::read_text))]
@@ -34,11 +36,11 @@ fn text_part_at(alloc: Global, items: &[Item]) -> Result<(Part, &[Item]), Halt<I
 }
 
 /// No settings yet.
-fn no_settings() -> Settings
+fn no_settings(alloc: Global) -> Settings
     ensures { result ≡ no_settings }
 {
     Settings {
-        key: None,
+        keys: SortKeys::none(alloc),
         descend: None,
         limit: None,
         delimiter: None,
@@ -47,11 +49,11 @@ fn no_settings() -> Settings
 }
 
 /// No settings yet, of a loop's tag.
-fn loop_settings() -> Settings
+fn loop_settings(alloc: Global) -> Settings
     ensures { result ≡ loop_settings }
 {
     Settings {
-        key: None,
+        keys: SortKeys::none(alloc),
         descend: None,
         limit: None,
         delimiter: None,
@@ -70,7 +72,7 @@ fn format_at<'a>(
 {
     let (_, rest) = mark_at(items, Mark::OpenFormat)?;
     let (values, rest) = expression_at(alloc, scope, rest)?;
-    let (settings, rest) = settings_at(alloc, 6, no_settings(), rest)?;
+    let (settings, rest) = settings_at(alloc, 8, no_settings(alloc), rest)?;
     Ok((shown(values, settings), rest))
 }
 
@@ -91,32 +93,114 @@ fn leaf_at<'a>(
 
 /// A comparison with a constant, and the end of the tag.
 #[tactic(auto, unfolding(crate::specs::Reading::read_comparing, crate::specs::Reading::read_compared))]
-fn comparing_at(alloc: Global, items: &[Item]) -> Result<(Option<Against>, &[Item]), Halt<Item>>
+fn comparing_at(alloc: Global, items: &[Item]) -> Result<(Test, &[Item]), Halt<Item>>
     ensures { Gives (λ x. x.0) (λ x. x.1.now) result (read_comparing items.now) }
 {
     let (compare, rest) = compare_at(items)?;
     let (constant, rest) = constant_at(alloc, rest)?;
     let (_, rest) = mark_at(rest, Mark::Close)?;
-    Ok((Some(Against { compare, constant }), rest))
+    Ok((Test::Compares(Against { compare, constant }), rest))
 }
 
 #[tactic(auto, unfolding(crate::specs::Reading::read_not_compared))]
-fn not_compared_at(items: &[Item]) -> Result<(Option<Against>, &[Item]), Halt<Item>>
+fn not_compared_at(items: &[Item]) -> Result<(Test, &[Item]), Halt<Item>>
     ensures { Gives (λ x. x.0) (λ x. x.1.now) result (read_not_compared items.now) }
 {
     let (_, rest) = mark_at(items, Mark::Close)?;
-    Ok((None, rest))
+    Ok((Test::Any, rest))
 }
 
-/// The comparison, if there is one, and the end of the tag.
+/// SAME, another expression, and the end of the tag.
+#[tactic(auto, unfolding(crate::specs::Reading::read_same))]
+fn same_values_at<'a>(
+    alloc: Global,
+    scope: &[Bound],
+    items: &'a [Item],
+) -> Result<(Test, &'a [Item]), Halt<'a, Item>>
+    ensures { Gives (λ x. x.0) (λ x. x.1.now) result (read_same scope.now items.now) }
+{
+    let (_, rest) = same_at(items)?;
+    let (values, rest) = expression_at(alloc, scope, rest)?;
+    let (_, rest) = mark_at(rest, Mark::Close)?;
+    Ok((Test::Same(values), rest))
+}
+
+/// SAME or nothing, and the end of the tag.
+#[tactic(auto, unfolding(crate::specs::Reading::read_no_comparison))]
+fn no_comparison_at<'a>(
+    alloc: Global,
+    scope: &[Bound],
+    items: &'a [Item],
+) -> Result<(Test, &'a [Item]), Halt<'a, Item>>
+    ensures { Gives (λ x. x.0) (λ x. x.1.now) result (read_no_comparison scope.now items.now) }
+{
+    if has_same(items) {
+        same_values_at(alloc, scope, items)
+    } else {
+        not_compared_at(items)
+    }
+}
+
+/// What is asked of an expression's values, and the end of the tag.
 #[tactic(auto, unfolding(crate::specs::Reading::read_comparison))]
-fn comparison_at(alloc: Global, items: &[Item]) -> Result<(Option<Against>, &[Item]), Halt<Item>>
-    ensures { Gives (λ x. x.0) (λ x. x.1.now) result (read_comparison items.now) }
+fn comparison_at<'a>(
+    alloc: Global,
+    scope: &[Bound],
+    items: &'a [Item],
+) -> Result<(Test, &'a [Item]), Halt<'a, Item>>
+    ensures { Gives (λ x. x.0) (λ x. x.1.now) result (read_comparison scope.now items.now) }
 {
     if has_compare(items) {
         comparing_at(alloc, items)
     } else {
-        not_compared_at(items)
+        no_comparison_at(alloc, scope, items)
+    }
+}
+
+/// A test of an expression's values.
+#[tactic(auto, unfolding(crate::specs::Reading::read_of_values))]
+fn of_values_at<'a>(
+    alloc: Global,
+    scope: &[Bound],
+    items: &'a [Item],
+) -> Result<((Expr, Test), &'a [Item]), Halt<'a, Item>>
+    ensures { Gives (λ x. x.0) (λ x. x.1.now) result (read_of_values scope.now items.now) }
+{
+    let (values, rest) = expression_at(alloc, scope, items)?;
+    let (test, rest) = comparison_at(alloc, scope, rest)?;
+    Ok(((values, test), rest))
+}
+
+/// A test of the number of an expression's values.
+#[tactic(auto, unfolding(crate::specs::Reading::read_of_count))]
+fn of_count_at<'a>(
+    alloc: Global,
+    scope: &[Bound],
+    items: &'a [Item],
+) -> Result<((Expr, Test), &'a [Item]), Halt<'a, Item>>
+    ensures { Gives (λ x. x.0) (λ x. x.1.now) result (read_of_count scope.now items.now) }
+{
+    let (_, rest) = count_at(items)?;
+    let (values, rest) = expression_at(alloc, scope, rest)?;
+    let (compare, rest) = compare_at(rest)?;
+    let (constant, rest) = int_at(rest)?;
+    let (_, rest) = mark_at(rest, Mark::Close)?;
+    Ok(((values, Test::Counts(Number { compare, constant })), rest))
+}
+
+/// A test, and the end of the tag.
+#[tactic(auto, unfolding(crate::specs::Reading::read_test))]
+fn test_at<'a>(
+    alloc: Global,
+    scope: &[Bound],
+    items: &'a [Item],
+) -> Result<((Expr, Test), &'a [Item]), Halt<'a, Item>>
+    ensures { Gives (λ x. x.0) (λ x. x.1.now) result (read_test scope.now items.now) }
+{
+    if has_count(items) {
+        of_count_at(alloc, scope, items)
+    } else {
+        of_values_at(alloc, scope, items)
     }
 }
 
@@ -146,20 +230,15 @@ fn extended(alloc: Global, scope: &[Bound], name: Str, number: u32) -> Result<Ve
     Ok(bounds)
 }
 
-fn choice_of(
-    negated: bool,
-    values: Expr,
-    against: Option<Against>,
-    taken: Vec<Part>,
-    other: Vec<Part>,
-) -> Part
-    ensures { single result ≡ choice negated values against (body_of taken.items)
+fn choice_of(negated: bool, tested: (Expr, Test), taken: Vec<Part>, other: Vec<Part>) -> Part
+    ensures { single result ≡ choice negated tested.0 tested.1 (body_of taken.items)
         (body_of other.items) done }
 {
+    let (values, test) = tested;
     Part::Choice(Choice {
         negated,
         values,
-        against,
+        test,
         taken,
         other,
     })
@@ -315,7 +394,7 @@ fn choice_rest_at<'a>(
     }
 }
 
-/// A choice from its expression on.
+/// A choice from its test on.
 #[cycle(body)]
 #[tactic(auto, unfolding(crate::specs::Reading::read_tested))]
 fn tested_at<'a>(
@@ -328,9 +407,8 @@ fn tested_at<'a>(
     ensures { Gives (λ x. single x.0) (λ x. x.1.now) result
         (read_tested (read_body depth) scope.now negated items.now) }
 {
-    let (values, rest) = expression_at(alloc, scope, items)?;
-    let (against, rest) = comparison_at(alloc, rest)?;
-    branches_at(alloc, depth, scope, negated, values, against, rest)
+    let (tested, rest) = test_at(alloc, scope, items)?;
+    branches_at(alloc, depth, scope, negated, tested, rest)
 }
 
 /// A choice from its first branch on.
@@ -341,16 +419,15 @@ fn branches_at<'a>(
     depth: u32,
     scope: &[Bound],
     negated: bool,
-    values: Expr,
-    against: Option<Against>,
+    tested: (Expr, Test),
     items: &'a [Item],
 ) -> Result<(Part, &'a [Item]), Halt<'a, Item>>
     ensures { Gives (λ x. single x.0) (λ x. x.1.now) result
-        (read_branches (read_body depth scope.now) negated values against items.now) }
+        (read_branches (read_body depth scope.now) negated tested items.now) }
 {
     let (taken, rest) = body_at(alloc, depth, scope, items)?;
     let (other, rest) = ending_at(alloc, depth, scope, rest)?;
-    Ok((choice_of(negated, values, against, taken, other), rest))
+    Ok((choice_of(negated, tested, taken, other), rest))
 }
 
 /// The end of a choice, with its other branch if it has one.
@@ -406,7 +483,7 @@ fn repeat_rest_at<'a>(
     let (name, rest) = variable_at(alloc, items)?;
     let (_, rest) = in_at(rest)?;
     let (values, rest) = expression_at(alloc, scope, rest)?;
-    let (settings, rest) = settings_at(alloc, 4, loop_settings(), rest)?;
+    let (settings, rest) = settings_at(alloc, 6, loop_settings(alloc), rest)?;
     let order = order_of(settings);
     repeated_at(
         alloc,

@@ -20,8 +20,10 @@ use Rattle.sd_value.specs.declared.Datum.TheVariants as datum
 use Rattle.sd_value.specs.declared.Value.TheVariants.{Data}
 use Rattle.template_tags.specs.declared.words.Bound.{Bound}
 use Rattle.template_tags.specs.declared.words.Keyword.{Keyword}
+use Rattle.template_tags.specs.declared.words.Keyword.TheVariants as words
+use Rattle.template_tags.specs.declared.settings.Setting.{Setting}
 use Rattle.template_tags.specs.declared.settings.Settings.{Settings}
-use Rattle.template_tags.specs.Terminals.{keyword_of, compare_word, setting_word, mode_word, writing_word, is_later_word, number, is_mark_kind, is_mark, mark_value, text_value, is_text, is_text_kind, token_of, name_of, name_value, quoted_value, label_value, joined_value, is_sign_of, is_dot, dot_value, is_equals, equals_value, constant_value, limit_value, direction_value, word_of, keyword_at, has_keyword, is_not_word, is_not, not_value, in_value, compare_of, is_compare, setting_of, is_setting, if_allowed, free_name, unless_keyword, variable_value, number_of, known_value, is_known, is_unknown, IsReal}
+use Rattle.template_tags.specs.Terminals.{keyword_of, compare_word, setting_word, mode_word, writing_word, is_later_word, number, is_mark_kind, is_mark, mark_value, text_value, is_text, is_text_kind, token_of, name_of, name_value, quoted_value, label_value, joined_value, is_sign_of, is_dot, dot_value, is_equals, equals_value, constant_value, limit_value, direction_value, word_of, keyword_at, has_keyword, is_not_word, is_not, not_value, in_value, compare_of, is_compare, setting_of, is_setting, if_allowed, is_any_setting, is_fold_word, is_fold, fold_value, is_descend_word, is_descend, is_same_word, is_same, same_value, is_count_word, is_count, count_value, int_value, free_name, unless_keyword, variable_value, number_of, known_value, is_known, is_unknown, IsReal}
 use Rattle.template_tags.specs.Tag.{mark}
 use Rattle.template_tags.specs.Reading.{read_mark}
 
@@ -107,6 +109,21 @@ not_part = one_part not_value (named (codes "NOT")) 0 refl (codes "NOT", (refl, 
 pub in_part : Part IsReal (one in_value) (one in_value) Always (take_one true in_value)
 unfolding keyword_of
 in_part = one_part in_value (named (codes "IN")) 0 refl (codes "IN", (refl, (refl, (refl, tt))))
+
+pub same_part : Part IsReal (one same_value) (one same_value) Always (take_one true same_value)
+unfolding keyword_of
+same_part = one_part same_value (named (codes "SAME")) 0 refl (codes "SAME", (refl, (refl, (refl, (refl, (refl, tt))))))
+
+pub count_part : Part IsReal (one count_value) (one count_value) Always (take_one true count_value)
+unfolding keyword_of compare_word setting_word mode_word
+count_part = one_part count_value (named (codes "COUNT")) 0 refl (codes "COUNT", (refl, (refl, (refl, (refl, (refl, (refl, tt)))))))
+
+pub fold_part : Part IsReal (one fold_value) (one fold_value) Always (take_one true fold_value)
+unfolding keyword_of compare_word setting_word
+fold_part = one_part fold_value (named (codes "FOLD")) 0 refl (codes "FOLD", (refl, (refl, (refl, (refl, (refl, tt))))))
+
+pub int_part : Part IsReal (one int_value) (one int_value) Always (take_one true int_value)
+int_part = one_part int_value (made (kinds.Token (tokens.Int (pos 0)))) (pos 0) refl (48 ∷ [], (inl (refl, tt), refl))
 
 pub variable_part : Part IsReal (one variable_value) (one variable_value) Always (take_one true variable_value)
 unfolding keyword_of compare_word setting_word mode_word writing_word is_later_word
@@ -257,11 +274,98 @@ setting_is_keyword s i = by (keyword_at i)
 pub mark_is_no_setting : (m : Mark) (s : Settings) (i : Item) → is_mark m i ≡ true → is_setting s i ≡ false
 mark_is_no_setting m s i e = ap (λ k. is_some (if_allowed s (setting_of k))) (mark_no_keyword m i e)
 
+pub setting_is_any : (s : Settings) (i : Item) → is_setting s i ≡ true → is_any_setting i ≡ true
+setting_is_any s i = by (setting_of (keyword_at i))
+  where
+    by : (o : Option Setting) → is_some (if_allowed s o) ≡ true → is_some o ≡ true
+    by None e = absurd cc
+    by (Some x) e = refl
+
+pub any_is_keyword : (i : Item) → is_any_setting i ≡ true → has_keyword i ≡ true
+any_is_keyword i = by (keyword_at i)
+  where
+    by : (k : Option Keyword) → is_some (setting_of k) ≡ true → is_some k ≡ true
+    by None e = absurd cc
+    by (Some k) e = refl
+
+pub any_is_no_fold : (i : Item) → is_any_setting i ≡ true → is_fold i ≡ false
+any_is_no_fold i = by (keyword_at i)
+  where
+    by : (k : Option Keyword) → is_some (setting_of k) ≡ true → is_fold_word k ≡ false
+    by (Some words.Fold) e = absurd cc
+    by k e = refl
+
+pub any_is_no_descend : (s : Settings) (i : Item) → is_any_setting i ≡ true → is_descend s i ≡ false
+any_is_no_descend s i e = and_false (is_none s.descend) (is_descend_word (keyword_at i)) (by (keyword_at i) e)
+  where
+    by : (k : Option Keyword) → is_some (setting_of k) ≡ true → is_descend_word k ≡ false
+    by (Some words.Descend) e = absurd cc
+    by k e = refl
+
+pub fold_is_no_descend : (s : Settings) (i : Item) → is_fold i ≡ true → is_descend s i ≡ false
+fold_is_no_descend s i e = and_false (is_none s.descend) (is_descend_word (keyword_at i)) (by (keyword_at i) e)
+  where
+    by : (k : Option Keyword) → is_fold_word k ≡ true → is_descend_word k ≡ false
+    by (Some words.Descend) e = absurd cc
+    by k e = refl
+
+pub fold_is_keyword : (i : Item) → is_fold i ≡ true → has_keyword i ≡ true
+fold_is_keyword i = by (keyword_at i)
+  where
+    by : (k : Option Keyword) → is_fold_word k ≡ true → is_some k ≡ true
+    by None e = absurd cc
+    by (Some k) e = refl
+
+pub descend_is_keyword : (s : Settings) (i : Item) → is_descend s i ≡ true → has_keyword i ≡ true
+descend_is_keyword s i e = by (keyword_at i) (and_true (is_none s.descend) (is_descend_word (keyword_at i)) e).1
+  where
+    by : (k : Option Keyword) → is_descend_word k ≡ true → is_some k ≡ true
+    by None e = absurd cc
+    by (Some k) e = refl
+
+pub descend_is_no_fold : (s : Settings) (i : Item) → is_descend s i ≡ true → is_fold i ≡ false
+descend_is_no_fold s i e = by (keyword_at i) (and_true (is_none s.descend) (is_descend_word (keyword_at i)) e).1
+  where
+    by : (k : Option Keyword) → is_descend_word k ≡ true → is_fold_word k ≡ false
+    by (Some words.Fold) e = absurd cc
+    by k e = refl
+
+pub mark_is_no_fold : (m : Mark) (i : Item) → is_mark m i ≡ true → is_fold i ≡ false
+mark_is_no_fold m i e = ap is_fold_word (mark_no_keyword m i e)
+
+pub mark_is_no_descend : (m : Mark) (s : Settings) (i : Item) → is_mark m i ≡ true → is_descend s i ≡ false
+mark_is_no_descend m s i e =
+    and_false (is_none s.descend) (is_descend_word (keyword_at i)) (ap is_descend_word (mark_no_keyword m i e))
+
+pub mark_is_no_same : (m : Mark) (i : Item) → is_mark m i ≡ true → is_same i ≡ false
+mark_is_no_same m i e = ap is_same_word (mark_no_keyword m i e)
+
+pub same_is_keyword : (i : Item) → is_same i ≡ true → has_keyword i ≡ true
+same_is_keyword i = by (keyword_at i)
+  where
+    by : (k : Option Keyword) → is_same_word k ≡ true → is_some k ≡ true
+    by None e = absurd cc
+    by (Some k) e = refl
+
+pub same_is_no_compare : (i : Item) → is_same i ≡ true → is_compare i ≡ false
+same_is_no_compare i = by (keyword_at i)
+  where
+    by : (k : Option Keyword) → is_same_word k ≡ true → is_some (compare_of k) ≡ false
+    by (Some words.Same) e = refl
+    by k e = absurd cc
+
+pub no_keyword_no_not : (i : Item) → keyword_at i ≡ None → is_not i ≡ false
+no_keyword_no_not i e = ap is_not_word e
+
+pub no_keyword_no_count : (i : Item) → keyword_at i ≡ None → is_count i ≡ false
+no_keyword_no_count i e = ap is_count_word e
+
+pub count_is_no_not : (i : Item) → is_count i ≡ true → is_not i ≡ false
+count_is_no_not i = by (keyword_at i)
+  where
+    by : (k : Option Keyword) → is_count_word k ≡ true → is_not_word k ≡ false
+    by (Some words.Count) e = refl
+    by k e = absurd cc
+
 pub mark_is_no_compare : (m : Mark) (i : Item) → is_mark m i ≡ true → is_compare i ≡ false
 mark_is_no_compare m i e = ap (λ k. is_some (compare_of k)) (mark_no_keyword m i e)
-
-pub mark_is_no_not : (m : Mark) (i : Item) → is_mark m i ≡ true → is_not i ≡ false
-mark_is_no_not m i e = ap is_not_word (mark_no_keyword m i e)
-
-pub variable_is_no_not : (i : Item) → is_some (variable_value i) ≡ true → is_not i ≡ false
-variable_is_no_not i e = ap is_not_word (variable_no_keyword i e)

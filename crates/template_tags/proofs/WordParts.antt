@@ -1,5 +1,5 @@
 -- The parts of words and expressions.
-use Rattle.std.proofs.Common.{◌≡◌, ℕ, true, false, List, [], ◌∷◌, ◌++◌, refl, sym, subst}
+use Rattle.std.proofs.Common.{◌≡◌, ℕ, true, false, None, List, [], ◌∷◌, ◌++◌, refl, sym, subst}
 use Rattle.grammar.specs.Grammar.{nothing, one, either}
 use Rattle.grammar.specs.Grammar as grammar
 use Rattle.grammar.specs.Fault.{Every}
@@ -13,11 +13,11 @@ use Rattle.template_items.specs.declared.item.Mark.TheVariants as marks
 use Rattle.tmpl.specs.declared.Expr.{Expr}
 use Rattle.tmpl.specs.declared.WordRoot.TheVariants.{Here, Loop, Collection}
 use Rattle.template_tags.specs.declared.words.Bound.{Bound}
-use Rattle.template_tags.specs.Terminals.{is_mark, is_dot, dot_value, known_value, is_known, unknown_value, is_unknown, is_not, IsReal}
+use Rattle.template_tags.specs.Terminals.{is_mark, is_dot, dot_value, known_value, is_known, unknown_value, is_unknown, keyword_at, IsReal}
 use Rattle.template_tags.specs.Tag.{mark, dotted, word, joined_word, from, here, here_of, collection, of_loop, expr, any_expr}
 use Rattle.template_tags.specs.Reading.{read_dotted, read_word, read_joined_word, read_here, read_here_of, read_collection, read_of_loop, read_loop, read_place, read_expr}
 use Rattle.template_tags.proofs.Known.{known_or}
-use Rattle.template_tags.proofs.ItemFacts.{guard, has_value, some_value, mark_part, label_part, joined_part, dot_part, mark_opens, other_mark, mark_is_not_known, mark_is_not_unknown, known_is_not_unknown, known_is_variable, unknown_is_variable, mark_is_no_not, variable_is_no_not}
+use Rattle.template_tags.proofs.ItemFacts.{guard, has_value, some_value, mark_part, label_part, joined_part, dot_part, mark_opens, other_mark, mark_is_not_known, mark_is_not_unknown, known_is_not_unknown, known_is_variable, unknown_is_variable, mark_no_keyword, variable_no_keyword}
 
 -- no dot follows
 abbrev pub AfterWord : List Item → Type 0
@@ -122,7 +122,7 @@ expr_part scope =
     (opens_either (grammar.◌>>=◌ (one (known_value scope)) of_loop) place _ (known_opens scope _ (known_is_not_unknown scope)) (place_opens _ (λ m i is. mark_is_not_unknown m scope i is)))
     (unknown_begun scope)
 
-pub expr_is_no_not : (scope : List Bound) → Opens (any_expr scope) (λ i. is_not i ≡ false)
-expr_is_no_not scope =
-    opens_either (grammar.◌>>=◌ (one (unknown_value scope)) of_loop) (expr scope) _ (unknown_opens scope _ (λ i e. variable_is_no_not i (unknown_is_variable scope i e)))
-    (opens_either (grammar.◌>>=◌ (one (known_value scope)) of_loop) place _ (known_opens scope _ (λ i e. variable_is_no_not i (known_is_variable scope i e))) (place_opens _ (λ m i is. mark_is_no_not m i is)))
+pub expr_is_no_keyword : (scope : List Bound) (W : Item → Type 0) → ((i : Item) → keyword_at i ≡ None → W i) → Opens (any_expr scope) W
+expr_is_no_keyword scope W holds =
+    opens_either (grammar.◌>>=◌ (one (unknown_value scope)) of_loop) (expr scope) W (unknown_opens scope W (λ i e. holds i (variable_no_keyword i (unknown_is_variable scope i e))))
+    (opens_either (grammar.◌>>=◌ (one (known_value scope)) of_loop) place W (known_opens scope W (λ i e. holds i (variable_no_keyword i (known_is_variable scope i e)))) (place_opens W (λ m i is. holds i (mark_no_keyword m i is))))

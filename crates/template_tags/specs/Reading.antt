@@ -1,5 +1,5 @@
 -- Reading what stands within a tag, from left to right.
-use Rattle.std.specs.Prelude.{ℕ, zero, suc, true, List, [], ◌∷◌, Some, None}
+use Rattle.std.specs.Prelude.{ℕ, zero, suc, Bool, true, false, List, [], ◌∷◌, Some, None}
 use Rattle.grammar.specs.Reading.{Outcome, Past, and_then, ◌>>=◌, ◌>>◌, give, take_one, choose}
 use Rattle.grammar.specs.Reading as reading
 use Rattle.template_items.specs.declared.item.Item.{Item}
@@ -16,6 +16,7 @@ use Rattle.template_tags.specs.declared.settings.Showing.TheVariants.{Each, HowM
 use Rattle.template_tags.specs.Terminals.{is_mark, mark_value, is_dot, dot_value, is_equals, equals_value}
 use Rattle.template_tags.specs.Terminals.{quoted_value, label_value, joined_value, direction_value, limit_value}
 use Rattle.template_tags.specs.Terminals.{is_setting, setting_value, is_known, known_value, is_unknown}
+use Rattle.template_tags.specs.Terminals.{is_fold, fold_value, is_descend, descend_value}
 use Rattle.template_tags.specs.Tag.{from, with_key, with_order, with_limit, with_delimiter, with_mode}
 
 -- the reader of a mark
@@ -92,12 +93,28 @@ read_expr scope =
 
 -- ---- settings
 
--- the word of values' keys
+-- FOLD, if it is here
+unfoldable pub read_fold : List Item → Outcome Item Bool
+read_fold = choose is_fold (take_one true fold_value >>= λ _. give true) (give false)
+
+-- DESCEND, if it is here
+unfoldable pub read_descend : Settings → List Item → Outcome Item Bool
+read_descend s =
+    choose (is_descend s) (take_one true (descend_value s) >>= λ _. give true) (give false)
+
+-- what is behind the word of a key
+unfoldable pub read_ways : Settings → List (List ℕ) → List Item → Outcome Item Settings
+read_ways s w = do
+  f ← read_fold
+  d ← read_descend s
+  give (with_key s (record { word = w; fold = f; descend = d }))
+
+-- a key
 unfoldable pub read_key : Settings → List Item → Outcome Item Settings
 read_key s = do
   take_one true equals_value
   w ← read_word
-  give (with_key s w)
+  read_ways s w
 
 -- a direction
 unfoldable pub read_order : Settings → List Item → Outcome Item Settings

@@ -2,17 +2,18 @@
 --
 --   setting  := mode | order | "LABEL" "=" Quoted       (at most one mode; LABEL behind LINK alone)
 --   mode     := "EMBED" | "LINK" [ "=" word ] | "COUNT" | "RAW" | "PLAIN" | "LINES" | "URL" | "JSON"
---   order    := "KEY" "=" word | "ORDER" "=" ( "ascend" | "descend" ) | "LIMIT" "=" Int
---             | "DELIM" "=" Quoted
+--   order    := key | "ORDER" "=" ( "ascend" | "descend" ) | "LIMIT" "=" Int | "DELIM" "=" Quoted
+--   key      := "KEY" "=" word [ "FOLD" ] [ "DESCEND" ]       (up to four; with ORDER one, upwards)
 --   expr     := "@" [ word ] | "#" label [ "." word ] | Name [ "." word ]
 --   word     := label { "." label }
-use Rattle.std.specs.Prelude.{ℕ, zero, suc, Bool, List, [], ◌∷◌, Some, None}
+use Rattle.std.specs.Prelude.{ℕ, zero, suc, Bool, true, false, List, [], ◌∷◌, ◌++◌, Option, Some, None}
 use Rattle.grammar.specs.Grammar.{nothing, one, ◌>>=◌, ◌>>◌, either, many}
 use Rattle.template_items.specs.declared.item.Item.{Item}
 use Rattle.template_items.specs.declared.item.Mark.{Mark}
 use Rattle.template_items.specs.declared.item.Mark.TheVariants as marks
 use Rattle.tmpl.specs.declared.Expr.{Expr}
 use Rattle.tmpl.specs.declared.Mode.TheVariants.{Written, Embed, Link, Labelled}
+use Rattle.tmpl.specs.declared.SortKey.{SortKey}
 use Rattle.tmpl.specs.declared.WordRoot.{WordRoot}
 use Rattle.tmpl.specs.declared.WordRoot.TheVariants.{Here, Loop, Collection}
 use Rattle.template_tags.specs.declared.words.Bound.{Bound}
@@ -23,7 +24,7 @@ use Rattle.template_tags.specs.declared.settings.Showing.{Showing}
 use Rattle.template_tags.specs.declared.settings.Showing.TheVariants.{Each, HowMany}
 use Rattle.template_tags.specs.Terminals.{mark_value, dot_value, equals_value, quoted_value, label_value}
 use Rattle.template_tags.specs.Terminals.{joined_value, direction_value, limit_value, setting_value, known_value}
-use Rattle.template_tags.specs.Terminals.{unknown_value}
+use Rattle.template_tags.specs.Terminals.{unknown_value, fold_value, descend_value}
 
 -- which lists of items spell which values
 abbrev pub Grammar : Type 0 → Type 1
@@ -99,17 +100,17 @@ any_expr scope = either (one (unknown_value scope) >>= of_loop) (expr scope)
 -- the settings, with the mode
 abbrev pub with_mode : Settings → Showing → Settings
 with_mode s mode = record {
-  key = s.key;
+  keys = s.keys;
   descend = s.descend;
   limit = s.limit;
   delimiter = s.delimiter;
   mode = Some mode;
 }
 
--- the settings, with `KEY`
-abbrev pub with_key : Settings → List (List ℕ) → Settings
-with_key s word = record {
-  key = Some word;
+-- the settings, with a further `KEY`
+abbrev pub with_key : Settings → SortKey → Settings
+with_key s key = record {
+  keys = s.keys ++ key ∷ [];
   descend = s.descend;
   limit = s.limit;
   delimiter = s.delimiter;
@@ -119,7 +120,7 @@ with_key s word = record {
 -- the settings, with `ORDER`
 abbrev pub with_order : Settings → Bool → Settings
 with_order s descend = record {
-  key = s.key;
+  keys = s.keys;
   descend = Some descend;
   limit = s.limit;
   delimiter = s.delimiter;
@@ -129,7 +130,7 @@ with_order s descend = record {
 -- the settings, with `LIMIT`
 abbrev pub with_limit : Settings → ℕ → Settings
 with_limit s limit = record {
-  key = s.key;
+  keys = s.keys;
   descend = s.descend;
   limit = Some limit;
   delimiter = s.delimiter;
@@ -139,19 +140,30 @@ with_limit s limit = record {
 -- the settings, with `DELIM`
 abbrev pub with_delimiter : Settings → List ℕ → Settings
 with_delimiter s text = record {
-  key = s.key;
+  keys = s.keys;
   descend = s.descend;
   limit = s.limit;
   delimiter = Some text;
   mode = s.mode;
 }
 
+-- a word of a key that may be left out: whether it is here
+abbrev pub flag : (Item → Option ℕ) → List Item → Bool → Type 0
+flag value = either (one value >>= λ _. nothing true) (nothing false)
+
+-- what is behind the word of a key
+abbrev pub ways : Settings → List (List ℕ) → List Item → Settings → Type 0
+ways s w = do
+  f ← flag fold_value
+  d ← flag (descend_value s)
+  nothing (with_key s (record { word = w; fold = f; descend = d }))
+
 -- what is behind `KEY`
 abbrev pub setting_key : Settings → List Item → Settings → Type 0
 setting_key s = do
   one equals_value
   w ← word
-  nothing (with_key s w)
+  ways s w
 
 -- what is behind `ORDER`
 abbrev pub setting_order : Settings → List Item → Settings → Type 0
@@ -206,7 +218,7 @@ no_more_settings s = do
   mark marks.Close
   nothing s
 
--- at most n more settings, none of them twice, and the end of the tag
+-- at most n more settings, and the end of the tag
 abbrev pub settings : ℕ → Settings → List Item → Settings → Type 0
 settings zero s = no_more_settings s
 settings (suc n) s =

@@ -1,5 +1,5 @@
 -- Single items, by what they stand for.
-use Rattle.std.specs.Prelude.{◌≡◌, ℕ, Bool, true, false, ◌||◌, ◌&&◌, not, List, [], ◌∷◌, nat_eq, ◌==◌, if◌then◌else◌, Option, Some, None, codes, ℤ, pos, negsuc}
+use Rattle.std.specs.Prelude.{◌≡◌, ℕ, Bool, true, false, ◌||◌, ◌&&◌, not, List, [], ◌∷◌, nat_eq, nat_lt, length, ◌==◌, if◌then◌else◌, Option, Some, None, codes, ℤ, pos, negsuc}
 use Rattle.std.specs.Str.{bytes_eq}
 use Rattle.std.specs.Option.{is_some, is_none}
 use Rattle.sd_lex.specs.declared.token.TokenKind.{TokenKind}
@@ -22,6 +22,7 @@ use Rattle.tmpl.specs.declared.Expr.{Expr}
 use Rattle.tmpl.specs.declared.Mode.TheVariants.{Written, Link}
 use Rattle.tmpl.specs.declared.Writing.TheVariants as writing
 use Rattle.tmpl.specs.declared.Order.{Order}
+use Rattle.tmpl.specs.declared.SortKey.{SortKey}
 use Rattle.tmpl.specs.Body.{Body, done, format, count}
 use Rattle.template_tags.specs.declared.words.Keyword.{Keyword}
 use Rattle.template_tags.specs.declared.words.Keyword.TheVariants as words
@@ -37,9 +38,8 @@ use Rattle.template_tags.specs.declared.settings.Showing.TheVariants.{Each, HowM
 -- a word of the grammar that no tag has
 unfoldable pub is_later_word : List ℕ → Bool
 is_later_word w =
-    bytes_eq w (codes "MARKDOWN") || (bytes_eq w (codes "FOLD") || (bytes_eq w (codes "DESCEND") ||
-    (bytes_eq w (codes "SAME") || (bytes_eq w (codes "AS") || (bytes_eq w (codes "AT") ||
-    bytes_eq w (codes "FILE"))))))
+    bytes_eq w (codes "MARKDOWN") || (bytes_eq w (codes "AS") || (bytes_eq w (codes "AT") ||
+    bytes_eq w (codes "FILE")))
 
 -- the keyword that a word is of those that say how a text is written, or of those that no tag has
 unfoldable pub writing_word : List ℕ → Option Keyword
@@ -59,13 +59,15 @@ mode_word w =
     if bytes_eq w (codes "LABEL") then Some words.Label else (
     if bytes_eq w (codes "COUNT") then Some words.Count else writing_word w)))
 
--- the keyword of a setting that a word is
+-- the keyword of a setting, or of a key, that a word is
 unfoldable pub setting_word : List ℕ → Option Keyword
 setting_word w =
     if bytes_eq w (codes "KEY") then Some words.Key else (
     if bytes_eq w (codes "ORDER") then Some words.Order else (
     if bytes_eq w (codes "DELIM") then Some words.Delimiter else (
-    if bytes_eq w (codes "LIMIT") then Some words.Limit else mode_word w)))
+    if bytes_eq w (codes "LIMIT") then Some words.Limit else (
+    if bytes_eq w (codes "FOLD") then Some words.Fold else (
+    if bytes_eq w (codes "DESCEND") then Some words.Descend else mode_word w)))))
 
 -- the keyword of a comparison, or of a setting, that a word is
 unfoldable pub compare_word : List ℕ → Option Keyword
@@ -97,7 +99,8 @@ keyword_of w =
     if is_part_word w || is_put_word w then Some words.Tag else (
     if bytes_eq w (codes "COLLECTION") then Some words.Collection else (
     if bytes_eq w (codes "NOT") then Some words.Not else (
-    if bytes_eq w (codes "IN") then Some words.In else compare_word w)))
+    if bytes_eq w (codes "IN") then Some words.In else (
+    if bytes_eq w (codes "SAME") then Some words.Same else compare_word w))))
 
 -- the number of the innermost loop with a variable of this name; the innermost loop is the last one
 abbrev pub find : Option ℕ → List Bound → List ℕ → Option ℕ
@@ -304,6 +307,41 @@ is_in i = is_in_word (keyword_at i)
 abbrev pub in_value : Item → Option ℕ
 in_value i = if is_in i then Some i.loops else None
 
+-- the keyword is `SAME`
+abbrev pub is_same_word : Option Keyword → Bool
+is_same_word (Some words.Same) = true
+is_same_word k = false
+
+-- the item is the word `SAME`
+abbrev pub is_same : Item → Bool
+is_same i = is_same_word (keyword_at i)
+
+-- the word `SAME`
+abbrev pub same_value : Item → Option ℕ
+same_value i = if is_same i then Some i.loops else None
+
+-- the keyword is `COUNT`
+abbrev pub is_count_word : Option Keyword → Bool
+is_count_word (Some words.Count) = true
+is_count_word k = false
+
+-- the item is the word `COUNT`
+abbrev pub is_count : Item → Bool
+is_count i = is_count_word (keyword_at i)
+
+-- the word `COUNT`
+abbrev pub count_value : Item → Option ℕ
+count_value i = if is_count i then Some i.loops else None
+
+-- the number that a token is
+abbrev pub int_of : Option TokenKind → Option ℤ
+int_of (Some (tokens.Int n)) = Some n
+int_of k = None
+
+-- a number
+abbrev pub int_value : Item → Option ℤ
+int_value i = int_of (token_of i.kind)
+
 -- the comparison that a keyword is
 abbrev pub compare_of : Option Keyword → Option Cmp
 compare_of (Some words.Eq) = Some cmp.Eq
@@ -342,10 +380,25 @@ abbrev pub is_bare_link : Option Showing → Bool
 is_bare_link (Some (Each (Link None))) = true
 is_bare_link m = false
 
--- each setting at most once, at most one mode, and a label only behind a link without one
+-- how many keys a tag has at most
+abbrev pub most_keys : ℕ
+most_keys = 4
+
+-- one more key may come: the first, or with no ORDER before it up to the fourth
+abbrev pub allows_key : Settings → Bool
+allows_key s = nat_lt (length s.keys) (if is_none s.descend then most_keys else 1)
+
+-- ORDER may come: there is at most one key, which goes upwards
+abbrev pub allows_order : List SortKey → Bool
+allows_order [] = true
+allows_order (k ∷ []) = not k.descend
+allows_order (k ∷ l ∷ keys) = false
+
+-- up to four keys, each other setting at most once, ORDER with at most one key that goes upwards, at
+-- most one mode, and a label only behind a link without one
 abbrev pub allows : Settings → Setting → Bool
-allows s setting.Key = is_none s.key
-allows s setting.Order = is_none s.descend
+allows s setting.Key = allows_key s
+allows s setting.Order = is_none s.descend && allows_order s.keys
 allows s setting.Delimiter = is_none s.delimiter
 allows s setting.Limit = is_none s.limit
 allows s setting.Embed = is_none s.mode
@@ -367,6 +420,36 @@ setting_value s i = if_allowed s (setting_of (keyword_at i))
 abbrev pub is_setting : Settings → Item → Bool
 is_setting s i = is_some (setting_value s i)
 
+-- the item is a setting's word
+abbrev pub is_any_setting : Item → Bool
+is_any_setting i = is_some (setting_of (keyword_at i))
+
+-- the keyword is `FOLD`
+abbrev pub is_fold_word : Option Keyword → Bool
+is_fold_word (Some words.Fold) = true
+is_fold_word k = false
+
+-- the item is the word `FOLD`
+abbrev pub is_fold : Item → Bool
+is_fold i = is_fold_word (keyword_at i)
+
+-- the word `FOLD`
+abbrev pub fold_value : Item → Option ℕ
+fold_value i = if is_fold i then Some i.loops else None
+
+-- the keyword is `DESCEND`
+abbrev pub is_descend_word : Option Keyword → Bool
+is_descend_word (Some words.Descend) = true
+is_descend_word k = false
+
+-- the item is the word `DESCEND`, in a tag without ORDER
+abbrev pub is_descend : Settings → Item → Bool
+is_descend s i = is_none s.descend && is_descend_word (keyword_at i)
+
+-- the word `DESCEND`, in a tag without ORDER
+abbrev pub descend_value : Settings → Item → Option ℕ
+descend_value s i = if is_descend s i then Some i.loops else None
+
 -- the value, or else the other one
 abbrev pub or_else : {A : Type 0} → Option A → A → A
 or_else (Some x) y = x
@@ -375,7 +458,7 @@ or_else None y = y
 -- ascending where the tag does not say otherwise
 abbrev pub order_of : Settings → Order
 order_of s = record {
-  key = s.key;
+  keys = s.keys;
   descend = or_else s.descend false;
   limit = s.limit;
   delimiter = s.delimiter;
@@ -393,12 +476,12 @@ shown x s = showing x s.mode (order_of s)
 
 -- before the first setting
 abbrev pub no_settings : Settings
-no_settings = record { key = None; descend = None; limit = None; delimiter = None; mode = None }
+no_settings = record { keys = []; descend = None; limit = None; delimiter = None; mode = None }
 
 -- a loop's tag takes no mode
 abbrev pub loop_settings : Settings
 loop_settings = record {
-  key = None;
+  keys = [];
   descend = None;
   limit = None;
   delimiter = None;

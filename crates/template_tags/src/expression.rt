@@ -7,20 +7,22 @@ ghost use Rattle.template_tags.specs.Terminals.{is_dot, is_setting};
 ghost use Rattle.template_tags.specs.Tag.{with_mode};
 ghost use Rattle.template_tags.specs.Reading.{read_dotted, read_word, read_joined_word, read_here, read_here_of};
 ghost use Rattle.template_tags.specs.Reading.{read_collection, read_of_loop, read_loop, read_place, read_expr};
-ghost use Rattle.template_tags.specs.Reading.{read_key, read_order, read_limit, read_delimiter, read_found};
+ghost use Rattle.template_tags.specs.Reading.{read_fold, read_descend, read_ways, read_key};
+ghost use Rattle.template_tags.specs.Reading.{read_order, read_limit, read_delimiter, read_found};
 ghost use Rattle.template_tags.specs.Reading.{read_link, read_label, read_set};
 ghost use Rattle.template_tags.specs.Reading.{read_close, read_next, read_settings};
 
 use crate::settings::{Setting, Settings, Showing};
 use crate::tokens::{
-    direction_at, dot_at, equals_at, has_dot, has_equals, has_known, has_mark, has_setting,
-    has_unknown, joined_at, known_at, label_at, limit_at, mark_at, quoted_at, setting_at,
+    descend_word_at, direction_at, dot_at, equals_at, fold_word_at, has_descend, has_dot,
+    has_equals, has_fold, has_known, has_mark, has_setting, has_unknown, joined_at, known_at,
+    label_at, limit_at, mark_at, quoted_at, setting_at,
 };
 use crate::words::Bound;
 use sd_value::Str;
 use std::alloc::Global;
 use template_items::{Item, Mark};
-use tmpl::{Expr, Mode, Word, WordRoot};
+use tmpl::{Expr, Mode, SortKey, Word, WordRoot};
 use token_reader::Halt;
 
 /// A dot and a label.
@@ -171,18 +173,63 @@ pub fn expression_at<'a>(
     }
 }
 
+/// FOLD, if it is next.
+#[tactic(auto, unfolding(crate::specs::Reading::read_fold))]
+fn fold_at(items: &[Item]) -> Result<(bool, &[Item]), Halt<Item>>
+    ensures { Gives (λ x. x.0) (λ x. x.1.now) result (read_fold items.now) }
+{
+    if !has_fold(items) {
+        return Ok((false, items));
+    }
+    let (_, rest) = fold_word_at(items)?;
+    Ok((true, rest))
+}
+
+/// DESCEND, if it is next and may be.
+#[tactic(auto, unfolding(crate::specs::Reading::read_descend))]
+fn descend_at<'a>(
+    settings: &Settings,
+    items: &'a [Item],
+) -> Result<(bool, &'a [Item]), Halt<'a, Item>>
+    ensures { Gives (λ x. x.0) (λ x. x.1.now) result (read_descend settings.now items.now) }
+{
+    if !has_descend(items, settings) {
+        return Ok((false, items));
+    }
+    let (_, rest) = descend_word_at(items, settings)?;
+    Ok((true, rest))
+}
+
+/// What is behind the word of a key.
+#[tactic(auto, unfolding(crate::specs::Reading::read_ways))]
+fn ways_at(
+    mut settings: Settings,
+    word: Word,
+    items: &[Item],
+) -> Result<(Settings, &[Item]), Halt<Item>>
+    ensures { Gives (λ x. x.0) (λ x. x.1.now) result (read_ways settings word items.now) }
+{
+    let (fold, rest) = fold_at(items)?;
+    let (descend, rest) = descend_at(&settings, rest)?;
+    settings.keys.push(SortKey {
+        word,
+        fold,
+        descend,
+    })?;
+    Ok((settings, rest))
+}
+
 #[tactic(auto, unfolding(crate::specs::Reading::read_key))]
 fn key_at(
     alloc: Global,
-    mut settings: Settings,
+    settings: Settings,
     items: &[Item],
 ) -> Result<(Settings, &[Item]), Halt<Item>>
     ensures { Gives (λ x. x.0) (λ x. x.1.now) result (read_key settings items.now) }
 {
     let (_, rest) = equals_at(items)?;
     let (word, rest) = word_at(alloc, rest)?;
-    settings.key = Some(word);
-    Ok((settings, rest))
+    ways_at(settings, word, rest)
 }
 
 #[tactic(auto, unfolding(crate::specs::Reading::read_order))]

@@ -9,7 +9,7 @@ mod words;
 pub use expression::{expression_at, settings_at};
 pub use settings::{Setting, Settings, Showing, order_of, shown};
 pub use tokens::{
-    compare_at, constant_at, has_compare, has_equals, has_mark, has_not, has_text, in_at, mark_at,
-    name_at, not_at, text_at, variable_at,
+    compare_at, constant_at, count_at, has_compare, has_count, has_equals, has_mark, has_not,
+    has_same, has_text, in_at, int_at, mark_at, name_at, not_at, same_at, text_at, variable_at,
 };
 pub use words::{Bound, Keyword};

@@ -1,11 +1,11 @@
-//! The settings of a tag: its key, order, limit, delimiter and mode.
+//! The settings of a tag: its keys, order, limit, delimiter and mode.
 
 ghost use Rattle.std.specs.Prelude.{◌≡◌};
 ghost use Rattle.tmpl.specs.Body.{done, part_before};
-ghost use Rattle.template_tags.specs.Terminals.{is_bare_link, allows, order_of, shown};
+ghost use Rattle.template_tags.specs.Terminals.{is_bare_link, allows_key, allows_order, allows, order_of, shown};
 
 use sd_value::Str;
-use tmpl::{Expr, Format, Mode, Order, Part, Word, Writing};
+use tmpl::{Expr, Format, Mode, Order, Part, SortKey, SortKeys, Writing};
 
 /// What a setting is about.
 #[derive(Clone, Copy, Debug, PartialEq, Eq)]
@@ -33,7 +33,7 @@ pub enum Showing {
 /// The settings that a tag has so far. A loop's tag has a mode from the start.
 #[derive(Drop)]
 pub struct Settings {
-    pub key: Option<Word>,
+    pub keys: SortKeys,
     pub descend: Option<bool>,
     pub limit: Option<usize>,
     pub delimiter: Option<Str>,
@@ -56,13 +56,39 @@ fn is_bare_link(mode: &Option<Showing>) -> bool
     }
 }
 
+/// How many keys a tag has at most.
+const MOST_KEYS: usize = 4;
+
+/// Whether one more key may come: the first, or up to the fourth if no ORDER is before it.
+fn allows_key(settings: &Settings) -> bool
+    ensures { result ≡ allows_key settings.now }
+{
+    let most = if settings.descend.is_none() {
+        MOST_KEYS
+    } else {
+        1
+    };
+    settings.keys.list().len() < most
+}
+
+/// Whether ORDER may come: there is at most one key, which goes upwards.
+fn allows_order(keys: &[SortKey]) -> bool
+    ensures { result ≡ allows_order keys.now }
+{
+    match keys {
+        [] => true,
+        [key] => !key.descend,
+        [_, _, ..] => false,
+    }
+}
+
 /// Whether the setting is still open.
 pub fn allows(settings: &Settings, setting: Setting) -> bool
     ensures { result ≡ allows settings.now setting }
 {
     match setting {
-        Setting::Key => settings.key.is_none(),
-        Setting::Order => settings.descend.is_none(),
+        Setting::Key => allows_key(settings),
+        Setting::Order => settings.descend.is_none() && allows_order(settings.keys.list()),
         Setting::Delimiter => settings.delimiter.is_none(),
         Setting::Limit => settings.limit.is_none(),
         Setting::Label => is_bare_link(&settings.mode),
@@ -77,7 +103,7 @@ pub fn order_of(settings: Settings) -> Order
     ensures { result ≡ order_of settings }
 {
     Order {
-        key: settings.key,
+        keys: settings.keys,
         descend: settings.descend.unwrap_or(false),
         limit: settings.limit,
         delimiter: settings.delimiter,

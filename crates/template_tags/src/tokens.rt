@@ -10,6 +10,8 @@ ghost use Rattle.template_tags.specs.Terminals.{is_equals, equals_value, constan
 ghost use Rattle.template_tags.specs.Terminals.{is_not, not_value, is_in, in_value, is_compare, compare_of};
 ghost use Rattle.template_tags.specs.Terminals.{compare_value, setting_of, is_setting, setting_value, variable_value};
 ghost use Rattle.template_tags.specs.Terminals.{is_known, known_value, is_unknown, limit_value};
+ghost use Rattle.template_tags.specs.Terminals.{is_same, same_value, is_count, count_value, is_fold, fold_value};
+ghost use Rattle.template_tags.specs.Terminals.{is_descend, descend_value, int_value};
 
 use crate::settings::{Setting, Settings, allows};
 use crate::words::{Bound, Keyword, find, keyword_of};
@@ -303,6 +305,134 @@ pub fn in_at(items: &[Item]) -> Result<(u32, &[Item]), Halt<Item>>
     if let [first, rest @ ..] = items {
         if is_in(first) {
             return Ok((first.loops, rest));
+        }
+    }
+    Err(Halt::Expected(items))
+}
+
+fn is_same(item: &Item) -> bool
+    ensures { result ≡ is_same item.now }
+{
+    matches!(keyword_at(item), Some(Keyword::Same))
+}
+
+/// Whether SAME is next.
+pub fn has_same(items: &[Item]) -> bool
+    ensures { result ≡ starts is_same items.now }
+{
+    match items {
+        [] => false,
+        [first, ..] => is_same(first),
+    }
+}
+
+/// SAME at the front.
+pub fn same_at(items: &[Item]) -> Result<(u32, &[Item]), Halt<Item>>
+    ensures { Gives (λ x. x.0) (λ x. x.1.now) result (take_one true same_value items.now) }
+{
+    if let [first, rest @ ..] = items {
+        if is_same(first) {
+            return Ok((first.loops, rest));
+        }
+    }
+    Err(Halt::Expected(items))
+}
+
+fn is_count(item: &Item) -> bool
+    ensures { result ≡ is_count item.now }
+{
+    matches!(keyword_at(item), Some(Keyword::Count))
+}
+
+/// Whether COUNT is next.
+pub fn has_count(items: &[Item]) -> bool
+    ensures { result ≡ starts is_count items.now }
+{
+    match items {
+        [] => false,
+        [first, ..] => is_count(first),
+    }
+}
+
+/// COUNT at the front.
+pub fn count_at(items: &[Item]) -> Result<(u32, &[Item]), Halt<Item>>
+    ensures { Gives (λ x. x.0) (λ x. x.1.now) result (take_one true count_value items.now) }
+{
+    if let [first, rest @ ..] = items {
+        if is_count(first) {
+            return Ok((first.loops, rest));
+        }
+    }
+    Err(Halt::Expected(items))
+}
+
+fn is_fold(item: &Item) -> bool
+    ensures { result ≡ is_fold item.now }
+{
+    matches!(keyword_at(item), Some(Keyword::Fold))
+}
+
+/// Whether FOLD is next.
+pub fn has_fold(items: &[Item]) -> bool
+    ensures { result ≡ starts is_fold items.now }
+{
+    match items {
+        [] => false,
+        [first, ..] => is_fold(first),
+    }
+}
+
+/// FOLD at the front.
+pub fn fold_word_at(items: &[Item]) -> Result<(u32, &[Item]), Halt<Item>>
+    ensures { Gives (λ x. x.0) (λ x. x.1.now) result (take_one true fold_value items.now) }
+{
+    if let [first, rest @ ..] = items {
+        if is_fold(first) {
+            return Ok((first.loops, rest));
+        }
+    }
+    Err(Halt::Expected(items))
+}
+
+fn is_descend(item: &Item, settings: &Settings) -> bool
+    ensures { result ≡ is_descend settings.now item.now }
+{
+    settings.descend.is_none() && matches!(keyword_at(item), Some(Keyword::Descend))
+}
+
+/// Whether DESCEND is next, in a tag without ORDER.
+pub fn has_descend(items: &[Item], settings: &Settings) -> bool
+    ensures { result ≡ starts (is_descend settings.now) items.now }
+{
+    match items {
+        [] => false,
+        [first, ..] => is_descend(first, settings),
+    }
+}
+
+/// DESCEND at the front, in a tag without ORDER.
+pub fn descend_word_at<'a>(
+    items: &'a [Item],
+    settings: &Settings,
+) -> Result<(u32, &'a [Item]), Halt<'a, Item>>
+    ensures { Gives (λ x. x.0) (λ x. x.1.now) result
+        (take_one true (descend_value settings.now) items.now) }
+{
+    if let [first, rest @ ..] = items {
+        if is_descend(first, settings) {
+            return Ok((first.loops, rest));
+        }
+    }
+    Err(Halt::Expected(items))
+}
+
+/// An integer at the front.
+pub fn int_at(items: &[Item]) -> Result<(i64, &[Item]), Halt<Item>>
+    ensures { Gives (λ x. x.0) (λ x. x.1.now) result (take_one true int_value items.now) }
+{
+    if let [first, rest @ ..] = items {
+        if let ItemKind::Token(TokenKind::Int(number)) = &first.kind {
+            return Ok((*number, rest));
         }
     }
     Err(Halt::Expected(items))

@@ -15,6 +15,7 @@ pub enum Keyword {
     Collection,
     Not,
     In,
+    Same,
     Eq,
     Ne,
     Lt,
@@ -25,6 +26,8 @@ pub enum Keyword {
     Order,
     Delimiter,
     Limit,
+    Fold,
+    Descend,
     Embed,
     Link,
     Label,
@@ -70,6 +73,8 @@ pub fn keyword_of(word: &[u8]) -> Option<Keyword>
         Some(Keyword::Not)
     } else if word == b"IN".as_slice() {
         Some(Keyword::In)
+    } else if word == b"SAME".as_slice() {
+        Some(Keyword::Same)
     } else {
         compare_word(word)
     }
@@ -97,7 +102,7 @@ fn compare_word(word: &[u8]) -> Option<Keyword>
     }
 }
 
-/// The keyword of a setting that this word is.
+/// The keyword of a setting, or of a key, that this word is.
 #[tactic(auto, unfolding(crate::specs::Terminals::setting_word))]
 fn setting_word(word: &[u8]) -> Option<Keyword>
     ensures { result ≡ setting_word word.now }
@@ -110,6 +115,10 @@ fn setting_word(word: &[u8]) -> Option<Keyword>
         Some(Keyword::Delimiter)
     } else if word == b"LIMIT".as_slice() {
         Some(Keyword::Limit)
+    } else if word == b"FOLD".as_slice() {
+        Some(Keyword::Fold)
+    } else if word == b"DESCEND".as_slice() {
+        Some(Keyword::Descend)
     } else {
         mode_word(word)
     }
@@ -160,9 +169,6 @@ fn is_later_word(word: &[u8]) -> bool
     ensures { result ≡ is_later_word word.now }
 {
     word == b"MARKDOWN".as_slice()
-        || word == b"FOLD".as_slice()
-        || word == b"DESCEND".as_slice()
-        || word == b"SAME".as_slice()
         || word == b"AS".as_slice()
         || word == b"AT".as_slice()
         || word == b"FILE".as_slice()

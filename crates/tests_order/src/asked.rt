@@ -73,8 +73,8 @@ pub fn orders_of(alloc: Global, rows: &[OrderRow]) -> Result<Vec<Order>, NoMemor
     Ok(orders)
 }
 
-// The text with a quote for each `'`.
-fn quoted(alloc: Global, text: &str) -> Result<Vec<u8>, NoMemory> {
+/// The text with a quote for each `'`.
+pub fn quoted(alloc: Global, text: &str) -> Result<Vec<u8>, NoMemory> {
     let mut quoted = Vec::new(alloc);
     for byte in text.bytes() {
         quoted.push(if byte == b'\'' { b'"' } else { byte })?;

@@ -4,6 +4,8 @@
 #[cfg(test)]
 mod asked;
 #[cfg(test)]
+mod read;
+#[cfg(test)]
 mod refused;
 #[cfg(test)]
 mod worked;

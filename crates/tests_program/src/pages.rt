@@ -238,6 +238,16 @@ const PAGES: &[PageRow] = &[
         err: "",
     },
     PageRow {
+        data_text: "object p { n \"Zug\" y 1 } object q { n \"Öl\" y 2 } object r { n \"apfel\" y 2 } object o { a &p a &q a &r }",
+        query: VALUES,
+        templates: "<TEMPLATE F><SFOR v IN @a KEY=n FOLD DELIM=\" \"><SFMT v.n></SFOR>;<SFMT @a LINK=n KEY=y DESCEND \
+            KEY=n FOLD DELIM=\" \">;<SIF COUNT @a GE 3>all</SIF><SIF @a.y SAME @a>none<SELSE>apart</SIF></TEMPLATE>",
+        address: "/F/no.html",
+        code: 0,
+        out: "apfel Öl Zug;apfel Öl Zug;allapart",
+        err: "",
+    },
+    PageRow {
         data_text: "object o { a 1 }",
         query: VALUES,
         templates: "<TEMPLATE F><SFMT @a>=x</TEMPLATE>",

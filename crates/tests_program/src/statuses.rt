@@ -106,7 +106,7 @@ const PAGE: &[&str] = &["page", "q", "t", "/", "a"];
 const USAGE: &str =
     "usage: strudel version\n\nPrints the version of the program and of the kit that proved it.\n";
 
-const VERSIONS: &str = "strudel 0.1.0\nrattle-kit-13b logic dac8208d650f15bf\n";
+const VERSIONS: &str = "strudel 0.1.0\nrattle-kit-13f logic dac8208d650f15bf\n";
 
 const RUNS: &[Run] = &[
     // Data are printed.

@@ -8,7 +8,8 @@ use Rattle.tmpl.specs.Body.{TemplateFile}
 use Rattle.template_layouts.specs.declared.refusal.TmplRefusal.{TmplRefusal}
 use Rattle.template_reader.specs.Template.{Entry, within}
 use Rattle.template_reader.specs.Reading.{read_text, read_format, read_leaf, read_compared, read_not_compared}
-use Rattle.template_reader.specs.Reading.{read_comparing, read_comparison, read_no_other, read_other_branch}
+use Rattle.template_reader.specs.Reading.{read_comparing, read_same, read_no_comparison, read_comparison, read_of_values}
+use Rattle.template_reader.specs.Reading.{read_of_count, read_test, read_no_other, read_other_branch}
 use Rattle.template_reader.specs.Reading.{read_ending, read_branches, read_tested, read_negated}
 use Rattle.template_reader.specs.Reading.{read_choice_rest, read_repeated, read_repeat_rest, read_choice}
 use Rattle.template_reader.specs.Reading.{read_repeat, read_block, read_part, read_body_of, read_body}
@@ -16,7 +17,7 @@ use Rattle.template_reader.specs.Reading.{read_collection_head, read_function_he
 use Rattle.template_reader.specs.Reading.{read_head_rest, read_template, read_file}
 use Rattle.template_tags.specs.Reading.{read_mark, read_dotted, read_word, read_joined_word, read_here}
 use Rattle.template_tags.specs.Reading.{read_here_of, read_collection, read_of_loop, read_loop, read_place}
-use Rattle.template_tags.specs.Reading.{read_expr, read_key, read_order, read_limit, read_delimiter, read_found, read_label, read_link}
+use Rattle.template_tags.specs.Reading.{read_fold, read_descend, read_ways, read_expr, read_key, read_order, read_limit, read_delimiter, read_found, read_label, read_link}
 use Rattle.template_tags.specs.Reading.{read_close, read_next, read_settings}
 use Rattle.template_tags.specs.Terminals.{writing_word, is_later_word, mode_word, setting_word, compare_word, keyword_of}
 use Rattle.template_reader.specs.Entries.{file_from, AreRead}
@@ -60,11 +61,12 @@ are_plain = refl
 
 unfoldable entries : List Entry
 unfolding plain entries_or repeat writing_word is_later_word mode_word setting_word compare_word keyword_of read_text read_format read_leaf
-    read_compared read_not_compared read_comparing read_comparison read_no_other read_other_branch read_ending
+    read_compared read_not_compared read_comparing read_same read_no_comparison read_comparison
+    read_of_values read_of_count read_test read_no_other read_other_branch read_ending
     read_branches read_tested read_negated read_choice_rest read_repeated read_repeat_rest read_choice
     read_repeat read_block read_part read_body_of read_body read_collection_head read_function_head
     read_named_head read_head_rest read_template read_file read_mark read_dotted read_word read_joined_word
-    read_here read_here_of read_collection read_of_loop read_loop read_place read_expr read_key read_order
+    read_here read_here_of read_collection read_of_loop read_loop read_place read_expr read_fold read_descend read_ways read_key read_order
     read_limit read_delimiter read_found read_label read_link read_close read_next read_settings
 entries = entries_or (read_file plain)
 
@@ -95,11 +97,12 @@ made_or (Some found) = found
 
 unfoldable made : List Entry
 unfolding lists and_read read_alone made_or repeat writing_word is_later_word mode_word setting_word compare_word keyword_of read_text read_format
-    read_leaf read_compared read_not_compared read_comparing read_comparison read_no_other read_other_branch
+    read_leaf read_compared read_not_compared read_comparing read_same read_no_comparison read_comparison
+    read_of_values read_of_count read_test read_no_other read_other_branch
     read_ending read_branches read_tested read_negated read_choice_rest read_repeated read_repeat_rest read_choice
     read_repeat read_block read_part read_body_of read_body read_collection_head read_function_head
     read_named_head read_head_rest read_template read_mark read_dotted read_word read_joined_word
-    read_here read_here_of read_collection read_of_loop read_loop read_place read_expr read_key read_order
+    read_here read_here_of read_collection read_of_loop read_loop read_place read_expr read_fold read_descend read_ways read_key read_order
     read_limit read_delimiter read_found read_label read_link read_close read_next read_settings
 made = made_or (read_alone lists)
 

@@ -5,7 +5,7 @@ unlet! b:current_syntax
 syntax match strudeltmplClose "</\(SIF\|SFOR\|TEMPLATE\|LAYOUT\|FRAGMENT\)>\|<SELSE>\|<SBODY>" containedin=ALL
 syntax region strudeltmplNote start="<SNOTE>" end="</SNOTE>" containedin=ALLBUT,strudeltmplTag,strudeltmplText
 syntax region strudeltmplTag matchgroup=strudeltmplClose start="<\(SFMT\|SIF\|SFOR\|SINCLUDE\|TEMPLATE\|LAYOUT\|FRAGMENT\)\ze\s" end=">" contains=strudeltmplText,strudeltmplWord,strudeltmplValue,strudeltmplNumber containedin=ALLBUT,strudeltmplTag,strudeltmplText keepend
-syntax keyword strudeltmplWord contained COLLECTION NOT IN EQ NE LT LE GT GE KEY ORDER LIMIT DELIM EMBED LINK LABEL COUNT RAW PLAIN LINES URL JSON ascend descend
+syntax keyword strudeltmplWord contained COLLECTION NOT IN EQ NE LT LE GT GE KEY FOLD DESCEND SAME ORDER LIMIT DELIM EMBED LINK LABEL COUNT RAW PLAIN LINES URL JSON ascend descend
 syntax match strudeltmplValue contained "[@#][A-Za-z_0-9.]*"
 syntax match strudeltmplNumber contained "-\?\<[0-9]\+\>"
 syntax region strudeltmplText contained start=+"+ skip=+\\.+ end=+"+

@@ -87,7 +87,6 @@ const ROWS: &[Row] = &[
             "<TEMPLATE F><SFMT @a DELIM=^x></TEMPLATE>",
             "<TEMPLATE F><SFMT @a DELIM=^'x></TEMPLATE>",
             "<TEMPLATE F><SFMT @a DELIM='x' ^DELIM='y'></TEMPLATE>",
-            "<TEMPLATE F><SFMT @a KEY=b ^KEY=c></TEMPLATE>",
             "<TEMPLATE F><SFMT @a ^foo></TEMPLATE>",
             "<TEMPLATE F><SFMT @a RAW ^URL></TEMPLATE>",
             "<TEMPLATE F><SFMT @a LINK ^JSON></TEMPLATE>",
@@ -123,6 +122,52 @@ const ROWS: &[Row] = &[
             "<TEMPLATE F><SFOR v IN @a ^COUNT>x</SFOR></TEMPLATE>",
             "<TEMPLATE F><SFOR v IN @a ^LABEL='x'>x</SFOR></TEMPLATE>",
             "<TEMPLATE F><SFOR ^COUNT IN @a>x</SFOR></TEMPLATE>",
+        ],
+    },
+    // Keys: up to four, and with ORDER one that goes upwards; FOLD and DESCEND right after a key's word.
+    Row {
+        number: 81,
+        texts: &[
+            "<TEMPLATE F><SFMT @f KEY=n KEY=t ^ORDER=descend></TEMPLATE>",
+            "<TEMPLATE F><SFMT @f ORDER=descend KEY=n ^KEY=t></TEMPLATE>",
+            "<TEMPLATE F><SFMT @f KEY=a KEY=b KEY=c KEY=d ^KEY=e></TEMPLATE>",
+            "<TEMPLATE F><SFOR v IN @f KEY=a KEY=b KEY=c KEY=d ^KEY=e>x</SFOR></TEMPLATE>",
+            "<TEMPLATE F><SFMT @f KEY=t DESCEND ^FOLD></TEMPLATE>",
+            "<TEMPLATE F><SFMT @f KEY=t DESCEND ^DESCEND></TEMPLATE>",
+            "<TEMPLATE F><SFMT @f KEY=t FOLD ^FOLD></TEMPLATE>",
+            "<TEMPLATE F><SFMT @f KEY=t DESCEND ^ORDER=ascend></TEMPLATE>",
+            "<TEMPLATE F><SFMT @f ORDER=ascend KEY=t ^DESCEND></TEMPLATE>",
+            "<TEMPLATE F><SFMT @f ORDER=ascend KEY=t FOLD ^DESCEND></TEMPLATE>",
+            "<TEMPLATE F><SFMT @f KEY=t LIMIT=2 ^FOLD></TEMPLATE>",
+            "<TEMPLATE F><SFMT @f ^FOLD></TEMPLATE>",
+            "<TEMPLATE F><SFOR v IN @f ^DESCEND>x</SFOR></TEMPLATE>",
+            "<TEMPLATE F><SFOR ^FOLD IN @f>x</SFOR></TEMPLATE>",
+        ],
+    },
+    // Tests: COUNT with a comparison and an integer, and SAME with another expression.
+    Row {
+        number: 81,
+        texts: &[
+            "<TEMPLATE F><SIF COUNT @f^>x</SIF></TEMPLATE>",
+            "<TEMPLATE F><SIF COUNT @f GT ^'3'>x</SIF></TEMPLATE>",
+            "<TEMPLATE F><SIF COUNT @f GT 3 ^4>x</SIF></TEMPLATE>",
+            "<TEMPLATE F><SIF COUNT @f ^SAME @f>x</SIF></TEMPLATE>",
+            "<TEMPLATE F><SIF COUNT ^NOT @f EQ 1>x</SIF></TEMPLATE>",
+            "<TEMPLATE F><SIF @f ^COUNT EQ 1>x</SIF></TEMPLATE>",
+            "<TEMPLATE F><SIF @f SAME^>x</SIF></TEMPLATE>",
+            "<TEMPLATE F><SIF @f SAME ^1>x</SIF></TEMPLATE>",
+            "<TEMPLATE F><SIF @f SAME @g ^EQ 1>x</SIF></TEMPLATE>",
+            "<TEMPLATE F><SIF @f EQ 1 ^SAME @g>x</SIF></TEMPLATE>",
+            "<TEMPLATE F><SIF ^SAME @f>x</SIF></TEMPLATE>",
+            "<TEMPLATE F><SFMT @f ^SAME @g></TEMPLATE>",
+            "<TEMPLATE F><SFOR ^SAME IN @f>x</SFOR></TEMPLATE>",
+        ],
+    },
+    Row {
+        number: 85,
+        texts: &[
+            "<TEMPLATE F><SIF @f SAME ^v>x</SIF></TEMPLATE>",
+            "<TEMPLATE F><SIF COUNT ^v EQ 1>x</SIF></TEMPLATE>",
         ],
     },
     // Tags of branches and loops.
@@ -360,6 +405,11 @@ const ROWS: &[Row] = &[
             "<TEMPLATE F><SFMT @RAW LINES KEY=JSON DELIM=','><SFMT @a.URL PLAIN></TEMPLATE>",
             "<TEMPLATE F><SFMT @LIMIT ORDER=ascend LINK LIMIT=1 DELIM='' LABEL='>' KEY=LABEL></TEMPLATE>",
             "<TEMPLATE F><SFOR v IN @a.COUNT LIMIT=9223372036854775807 KEY=n><SFMT v COUNT KEY=n></SFOR></TEMPLATE>",
+            "<TEMPLATE F><SFMT @a KEY=b FOLD DESCEND KEY=c.d KEY=e FOLD LINK LABEL='x' KEY=DESCEND DESCEND LIMIT=3 \
+                DELIM=','></TEMPLATE>",
+            "<TEMPLATE F><SFMT @a ORDER=descend KEY=b FOLD><SFOR v IN @ KEY=a FOLD KEY=b KEY=c KEY=FOLD LIMIT=1 \
+                DELIM=''><SIF v SAME #C.SAME>x</SIF></SFOR></TEMPLATE>",
+            "<TEMPLATE F><SIF NOT COUNT @a GE -1>x<SELSE>y</SIF><SIF NOT @ SAME @>z</SIF></TEMPLATE>",
             "<TEMPLATE F><SIF NOT #C.a LE -1>x<SELSE>y</SIF></TEMPLATE>",
             "<TEMPLATE F><SFOR v IN #C><SFOR v IN v.a><SFMT v EMBED></SFOR></SFOR></TEMPLATE>",
             "<TEMPLATE F><SIF @a><SIF @a><SIF @a><SIF @a><SIF @a><SIF @a><SIF @a><SIF @a><SIF @a><SIF @a><SIF \

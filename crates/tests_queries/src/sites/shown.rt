@@ -74,6 +74,26 @@ pub const SITES: &[SiteRow] = &[
         outcomes: "/F/na.html (1);/F/nb.html (2);/F/nc.html (2);/F/nd.html (10);/R.html 1 2|(10)(2)(2)|\
             /F/na.html,/F/nb.html,/F/nc.html,/F/nd.html|4 4|0 3|<a href='/F/na.html'>&lt;more&gt;</a>n;",
     },
+    // Several keys, tests of numbers, and values in common.
+    SiteRow {
+        data_text: "object a in A { t 'B' n 1 } object b in A { t 'a' n 2 } object c in A { t 'A' n 2 } object d in A { n 10 }",
+        query: "INPUT D CREATE R() { WHERE A(x), x -> l -> v CREATE F(x) LINK F(x) -> l -> v, R() -> 'f' -> F(x) } OUTPUT S",
+        templates: "<TEMPLATE R><SFMT @f LINK=t KEY=n DESCEND KEY=t FOLD DELIM=' '>|<SFOR x IN @f KEY=t DESCEND DELIM=' '>\
+            <SFMT x.n></SFOR>|<SFOR x IN @f KEY=t FOLD DELIM=','><SFMT x.t></SFOR>|<SIF COUNT @f GT 3>many<SELSE>few</SIF> \
+            <SIF NOT COUNT @f EQ 4>x<SELSE>four</SIF>|<SFOR m IN @f DELIM=','><SIF NOT m SAME @f>a</SIF><SIF m SAME @>b\
+            <SELSE>c</SIF></SFOR></TEMPLATE><TEMPLATE F>(<SFMT @n>)</TEMPLATE>",
+        outside: &[],
+        outcomes: "/F/na.html (1);/F/nb.html (2);/F/nc.html (2);/F/nd.html (10);/R.html <a href='/F/nd.html'>/F/nd.html</a> \
+            <a href='/F/nc.html'>A</a> <a href='/F/nb.html'>a</a> <a href='/F/na.html'>B</a>|2 1 2 10|A,a,B,|many four|c,c,c,c;",
+    },
+    // The current entry of a menu: the Int 2 isn't the Text '2'.
+    SiteRow {
+        data_text: "object a in A { t 'B' t 2 n 1 n 2 n '2' n 'B' }",
+        query: "INPUT D WHERE A(x), x -> l -> v CREATE F(x) LINK F(x) -> l -> v OUTPUT S",
+        templates: "<TEMPLATE F><SFOR m IN @n KEY=n DELIM=' '><SIF @t SAME m>[<SFMT m>]<SELSE><SFMT m></SIF></SFOR></TEMPLATE>",
+        outside: &[],
+        outcomes: "/F/na.html 1 [2] 2 [B];",
+    },
     // Loops, branches and keys.
     SiteRow {
         data_text: "object o { a 1 a 2 } object s { a &p a &q a &r } object p { k 2 } object q { k 1 } object r { }",

@@ -221,7 +221,7 @@ expand_part-returns-then-is_taken-clause-answer g t c =
     let sc : Env = record { here = c.args.here.now; loops = c.args.loops.now } in
     let x = c.in-Choice.choice in
     let h = c.in_ok-holds-in-Choice.ensures.answer in
-    let way = taken_by x.negated c.in_ok-holds-in-Choice.holds (TestHolds s sc x.values x.against) h.0 h.1 (sym c.is_taken.ensures ∙ c.if-is_taken.true) in
+    let way = taken_by x.negated c.in_ok-holds-in-Choice.holds (TestHolds s sc x.values x.test) h.0 h.1 (sym c.is_taken.ensures ∙ c.if-is_taken.true) in
     let all = subst (λ y. IfOk c.expand.result (λ _. (ps : List Item) × Expands (g.V.SiteView.site y) (g.V.SiteView.templates y) sc (body_of c.as_slice-then-is_taken.result.now) ps × Adds c.args.out.now c.expand.new.out ps)) c.holds.ensures.fixed c.expand.ensures.answer in
     ok_then _ _ c.expand.result
     (λ _ (ps, expands, adds).
@@ -248,7 +248,7 @@ expand_part-returns-else-is_taken-clause-answer g t c =
     let sc : Env = record { here = c.args.here.now; loops = c.args.loops.now } in
     let x = c.in-Choice.choice in
     let h = c.in_ok-holds-in-Choice.ensures.answer in
-    let way = not_taken_by x.negated c.in_ok-holds-in-Choice.holds (TestHolds s sc x.values x.against) h.0 h.1 (sym c.is_taken.ensures ∙ c.if-is_taken.false) in
+    let way = not_taken_by x.negated c.in_ok-holds-in-Choice.holds (TestHolds s sc x.values x.test) h.0 h.1 (sym c.is_taken.ensures ∙ c.if-is_taken.false) in
     let all = subst (λ y. IfOk c.expand-else-is_taken.result (λ _. (ps : List Item) × Expands (g.V.SiteView.site y) (g.V.SiteView.templates y) sc (body_of c.as_slice-else-is_taken.result.now) ps × Adds c.args.out.now c.expand-else-is_taken.new.out ps)) c.holds.ensures.fixed c.expand-else-is_taken.ensures.answer in
     ok_then _ _ c.expand-else-is_taken.result
     (λ _ (ps, expands, adds).

@@ -1,10 +1,9 @@
-use Rattle.std.proofs.Common.{◌≡◌, true, [], ◌∷◌, sym, ◌∙◌, ap, subst}
-use Rattle.std.specs.Prelude.{List, map}
+use Rattle.std.proofs.Common.{◌≡◌, true, [], ◌∷◌, sym, ◌∙◌}
+use Rattle.std.specs.Prelude.{map}
 use Rattle.std.proofs.lemmas.List.{map-append}
 use Rattle.std.proofs.lemmas.Result.{err_from_is_err_and}
-use Rattle.grammar.specs.Reading.{starts, repeat, with_front}
+use Rattle.grammar.specs.Reading.{starts, repeat}
 use Rattle.grammar.proofs.RepeatLoop.{shrinks, goes_on, done}
-use Rattle.order_spec.specs.Order.{Place}
 use Rattle.order_spec.specs.Read.{place_of}
 use Rattle.token_reader.proofs.Ends.{ends}
 use Rattle.struql_orders.specs.Terminals.{begins_place}

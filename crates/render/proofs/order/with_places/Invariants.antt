@@ -3,14 +3,14 @@ use Rattle.render.specs.Rows.{HasRow}
 use Rattle.sd_value.specs.Gathered.{Gathered}
 use Rattle.sd_value.specs.declared.Value.{Value}
 use Rattle.std.specs.Prelude.{Contains}
-use Rattle.render.specs.Asks.{KeyAsks}
+use Rattle.render.specs.Asks.{KeysAsks}
 use Rattle.demand_spec.specs.Reads.{KeepsOnly}
-use Rattle.render.proofs.values.with_keys.Given as goal
+use Rattle.render.proofs.order.with_places.Given as goal
 
 abbrev pub invariant-loop-value : goal.invariant-loop-value
 invariant-loop-value g l = record {
   own : g.V.SiteView.Own l.view;
   fixed : g.V.SiteView.fixed l.view ≡ g.V.SiteView.fixed l.initial.view;
-  gathered : Gathered (HasRow (g.V.SiteView.site (g.V.SiteView.fixed l.initial.view)) l.word) (take l.value-index l.values) l.rows.items;
-  kept : KeepsOnly (λ q. (v : Value) × Contains l.values v × KeyAsks (g.V.SiteView.site (g.V.SiteView.fixed l.initial.view)) l.word v q) (g.V.SiteView.kept l.initial.view) (g.V.SiteView.kept l.view);
+  gathered : Gathered (HasRow (g.V.SiteView.site (g.V.SiteView.fixed l.initial.view)) l.keys) (take l.value-index l.values) l.rows.items;
+  kept : KeepsOnly (λ q. (v : Value) × Contains l.values v × KeysAsks (g.V.SiteView.site (g.V.SiteView.fixed l.initial.view)) l.keys v q) (g.V.SiteView.kept l.initial.view) (g.V.SiteView.kept l.view);
 }
