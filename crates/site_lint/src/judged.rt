@@ -210,7 +210,7 @@ pub(crate) fn is_mistake<S: Store, L: LinkAnswers>(
         Asked::Step(label) => {
             is_unknown_step(alloc, site.store, site.links, &names.created, label)
         }
-        Asked::Tag | Asked::Shown => Ok(true),
+        Asked::Tag | Asked::Shown | Asked::Raw => Ok(true),
         Asked::Targets => Ok(site.has_active_end),
     }
 }
