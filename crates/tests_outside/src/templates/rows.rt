@@ -170,6 +170,9 @@ const ROWS: &[Row] = &[
             "<TEMPLATE F><SIF COUNT ^v EQ 1>x</SIF></TEMPLATE>",
         ],
     },
+];
+
+const TAG_ROWS: &[Row] = &[
     // Tags of branches and loops.
     Row {
         number: 81,
@@ -433,6 +436,14 @@ fn check_row(alloc: Global, row: &Row) -> Result<(), Fail> {
 #[test]
 fn templates_are_refused_at_their_places(rt: HostRuntime) -> Result<(), Fail> {
     for row in ROWS {
+        check_row(rt.alloc(), row)?;
+    }
+    Ok(())
+}
+
+#[test]
+fn tags_are_refused_at_their_places(rt: HostRuntime) -> Result<(), Fail> {
+    for row in TAG_ROWS {
         check_row(rt.alloc(), row)?;
     }
     Ok(())
