@@ -1,9 +1,10 @@
 -- `WHERE A(x) CREATE F(x) LINK F(x) -> "t" -> x`, and `<SIF @t.t>y</SIF>` for F: the first label of the word is read at
 -- the page, and the second one, which is the same, in the data.
-use Rattle.std.specs.Prelude.{[], ◌∷◌, false, None, codes}
+use Rattle.std.specs.Prelude.{[], ◌∷◌, false, codes}
 use Rattle.graph_spec.specs.DataGraph.{DataGraph, text}
 use Rattle.query_spec.specs.Query.{variable, member, made, plain, quoted, Link, Body as Block}
 use Rattle.site_spec.specs.Site.{Scope}
+use Rattle.tmpl.specs.declared.Test.TheVariants.{Any}
 use Rattle.tmpl.specs.Body.{Body, done, text as stretch, choice}
 use Rattle.definition_examples.specs.Tools.{edge}
 use Rattle.edit_spec.specs.declared.Edit.{Edit}
@@ -27,7 +28,7 @@ abbrev pub scope : Scope
 scope = record { version = 1; bodies = block ∷ [] }
 
 abbrev pub body : Body
-body = choice false (here (t ∷ t ∷ [])) None (stretch (codes "y") done) done done
+body = choice false (here (t ∷ t ∷ [])) Any (stretch (codes "y") done) done done
 
 -- `object o in A {}`, and the same with `t "U"`
 abbrev pub before : DataGraph
