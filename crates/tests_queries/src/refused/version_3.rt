@@ -43,6 +43,7 @@ const TEXTS: &[Refused] = &[
             "STRUQL 3 INPUT D WHERE A(x), x -> ^BY -> y OUTPUT S",
             "STRUQL 3 INPUT D WHERE ^OF(x) OUTPUT S",
             "STRUQL 3 INPUT D CREATE ^descend() OUTPUT S",
+            "STRUQL 3 INPUT D CREATE ^fold() OUTPUT S",
             "STRUQL 3 INPUT D WHERE A(x) CREATE F(x) LINK F(x) -> ^FOLD -> x OUTPUT S",
             "STRUQL 3 INPUT D WHERE A(x) CREATE F(x) COLLECT ^none(x) OUTPUT S",
             "STRUQL 3 INPUT ^none OUTPUT S",
@@ -105,9 +106,9 @@ fn texts_of_two_operands_are_read_in_version_3(rt: HostRuntime) -> Result<(), Fa
 }
 
 const KEPT: &[&str] = &[
-    "starts", "ends", "has", "matches", "lower", "upper", "fold", "slug", "trim", "first", "last",
-    "rest", "before", "after", "replace", "join", "split", "length", "number", "decimal", "plus",
-    "minus", "times", "div", "mod", "date", "dated", "count", "min", "max", "sum",
+    "starts", "ends", "has", "matches", "lower", "upper", "slug", "trim", "first", "last", "rest",
+    "before", "after", "replace", "join", "split", "length", "number", "decimal", "plus", "minus",
+    "times", "div", "mod", "date", "dated", "count", "min", "max", "sum",
 ];
 
 #[test]
