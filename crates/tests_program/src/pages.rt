@@ -1,6 +1,7 @@
 // Pages and refusals of the command `page`, over files and outputs in memory.
 use crate::runs::{FileRow, PLAIN, Run, check_run};
 use crate::site::{BIB, LOOKS, SITE, YEAR};
+use std::process::Abort;
 use std::test::Fail;
 
 // The files `d`, `q` and `t`, the address of the page, the exit code, and the output and the standard error.
@@ -283,6 +284,9 @@ const PAGES: &[PageRow] = &[
         out: "[()]",
         err: "",
     },
+];
+
+const MORE_PAGES: &[PageRow] = &[
     PageRow {
         data_text: "object n1 in Ns { next &n2 } object n2 in Ns { next &n3 } object n3 in Ns { next &n4 } \
             object n4 in Ns { next &n5 } object n5 in Ns { next &n6 } object n6 in Ns { next &n7 } object \
@@ -555,32 +559,44 @@ const PAGES: &[PageRow] = &[
     },
 ];
 
+fn check_page<R: AllocGlobal + Abort>(rt: &R, row: &PageRow) -> Result<(), Fail> {
+    let files = [
+        FileRow {
+            path: "d",
+            text: row.data_text,
+        },
+        FileRow {
+            path: "q",
+            text: row.query,
+        },
+        FileRow {
+            path: "t",
+            text: row.templates,
+        },
+    ];
+    let run = Run {
+        name: row.query,
+        words: &["page", "q", "t", row.address, "d"],
+        code: row.code,
+        out: row.out,
+        err: row.err,
+        ..PLAIN
+    };
+    check_run(rt, &files, &run)
+}
+
 #[test]
 fn each_page_is_as_its_row_says(rt: HostRuntime) -> Result<(), Fail> {
     for row in PAGES {
-        let files = [
-            FileRow {
-                path: "d",
-                text: row.data_text,
-            },
-            FileRow {
-                path: "q",
-                text: row.query,
-            },
-            FileRow {
-                path: "t",
-                text: row.templates,
-            },
-        ];
-        let run = Run {
-            name: row.query,
-            words: &["page", "q", "t", row.address, "d"],
-            code: row.code,
-            out: row.out,
-            err: row.err,
-            ..PLAIN
-        };
-        check_run(&rt, &files, &run)?;
+        check_page(&rt, row)?;
+    }
+    Ok(())
+}
+
+#[test]
+fn more_pages_are_as_their_rows_say(rt: HostRuntime) -> Result<(), Fail> {
+    for row in MORE_PAGES {
+        check_page(&rt, row)?;
     }
     Ok(())
 }
