@@ -22,6 +22,7 @@ fn name_of(number: u32) -> &'static [u8]
         147 => b"Unbounded",
         148 => b"NoRow",
         149 => b"MisspelledTag",
+        150 => b"ShownRaw",
         156 => b"OnlyCollected",
         157 => b"UnsafePlace",
         158 => b"ActiveAddress",

@@ -8,7 +8,7 @@ use Rattle.lint_spec.specs.declared.Claim.{Claim}
 use Rattle.lint_spec.specs.declared.Finding.{Finding}
 
 -- the number of a mistake: UnknownCollection, UnknownLabel, NoSuchLink, NeverCreated, NoTemplate,
--- NeverReached, Unbounded, NoRow, MisspelledTag, OnlyCollected, UnsafePlace, ActiveAddress
+-- NeverReached, Unbounded, NoRow, MisspelledTag, OnlyCollected, UnsafePlace, ActiveAddress, ShownRaw
 abbrev pub number_of : Asked → ℕ
 number_of (asked.Collection c) = 141
 number_of (asked.Labels labels) = 142
@@ -24,10 +24,11 @@ number_of asked.Tag = 149
 number_of (asked.Member c) = 156
 number_of asked.Shown = 157
 number_of asked.Targets = 158
+number_of asked.Raw = 150
 
 -- a number that is told as a note, which is no fault of the texts
 abbrev pub is_note : ℕ → Bool
-is_note number = nat_eq number 157 || nat_eq number 158
+is_note number = nat_eq number 150 || (nat_eq number 157 || nat_eq number 158)
 
 -- each of the findings is a note
 abbrev pub are_notes : List Finding → Bool

@@ -120,3 +120,5 @@ module _ (graph : DataGraph) (q : Scope) (templates : TemplateFile) (further : L
   IsMistake asked.Shown = ⊤
   -- an edge ends at an active address, which LINK shows as text
   IsMistake asked.Targets = IsTrue (has_active_end graph.edges)
+  -- what is shown as it stands may hold tags
+  IsMistake asked.Raw = ⊤

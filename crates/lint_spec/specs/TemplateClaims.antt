@@ -134,6 +134,11 @@ shown_claims place at = if is_unsafe place then claim asked.Shown at ∷ [] else
 abbrev pub target_claims : Name → ℕ → List Claim
 target_claims n at = if bytes_eq n (codes "LINK") then claim asked.Targets at ∷ [] else []
 
+-- what is asked for by a mode that shows a value as it stands
+abbrev pub raw_claims : Name → ℕ → List Claim
+raw_claims n at =
+    if bytes_eq n (codes "RAW") || bytes_eq n (codes "PLAIN") then claim asked.Raw at ∷ [] else []
+
 -- what an item asks for, by what is before it and behind it
 abbrev pub item_claims : Before → ItemKind → ℕ → List Item → List Claim
 item_claims s (kinds.Text t) at items = tag_claims at t
@@ -144,7 +149,7 @@ item_claims s (kinds.Mark marks.Hash) at items = label_claims asked.Collection i
 item_claims s (kinds.Token (tokens.Sign signs.Dot)) at items = label_claims asked.Step items
 item_claims s (kinds.Token (tokens.Name n)) at items =
     if s.labelled then []
-    else target_claims n at ++ (if is_word_setting n then word_claims items else [])
+    else target_claims n at ++ (raw_claims n at ++ (if is_word_setting n then word_claims items else []))
 item_claims s k at items = []
 
 -- what is known further on in a template
@@ -164,6 +169,7 @@ before_next s (kinds.Mark marks.OpenFormat) items = known s false (after_value s
 before_next s (kinds.Mark marks.HereOf) items = known s true s.markup
 before_next s (kinds.Mark marks.Hash) items = known s true s.markup
 before_next s (kinds.Token (tokens.Sign signs.Dot)) items = known s true s.markup
+before_next s (kinds.Token (tokens.Sign signs.Eq)) items = known s true s.markup
 before_next s (kinds.Text t) items = known s false (after_text s.markup t)
 before_next s k items = known s false s.markup
 

@@ -85,6 +85,8 @@ pub enum Asked {
     Shown,
     /// Values of the data to which LINK leads.
     Targets,
+    /// A value that is shown as it stands.
+    Raw,
 }
 
 // Written out, so that it is proved here once, and not again in each crate that drops one.
@@ -115,6 +117,7 @@ impl Drop for Asked {
             Asked::Tag => {}
             Asked::Shown => {}
             Asked::Targets => {}
+            Asked::Raw => {}
         }
     }
 }

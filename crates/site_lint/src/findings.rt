@@ -33,6 +33,7 @@ fn number_of(what: &Asked) -> u32
         Asked::Member(_) => 156,
         Asked::Shown => 157,
         Asked::Targets => 158,
+        Asked::Raw => 150,
     }
 }
 
@@ -40,7 +41,7 @@ fn number_of(what: &Asked) -> u32
 pub fn is_note(number: u32) -> bool
     ensures { result ≡ is_note number }
 {
-    number == 157 || number == 158
+    number == 150 || number == 157 || number == 158
 }
 
 // Adds the claim, where it is a mistake.

@@ -178,7 +178,7 @@ pub(crate) fn is_mistake<S: Store, L: LinkAnswers>(
                 label,
             )
         }
-        Asked::Tag | Asked::Shown => Ok(true),
+        Asked::Tag | Asked::Shown | Asked::Raw => Ok(true),
         Asked::Targets => Ok(site.has_active_end),
     }
 }

@@ -18,7 +18,7 @@ const HOMES: &str =
 // Values in text, in an attribute in quotes, in one without, in a handler, in the tag, and in a script and after it.
 const PLACES: &str = "<TEMPLATE P><SFMT @home><a title='<SFMT @home>' href=<SFMT @home> \
     onclick=\"<SFMT @home>\" <SFMT @home>></a><SCRIPT>x = \"<SFMT @home>\"</SCRIPT>\
-    <SFMT @home LINK></TEMPLATE>";
+    <SFMT @home LINK><SFMT @home PLAIN></TEMPLATE>";
 
 pub const FILES: &[FileRow] = &[
     FileRow {

@@ -9,7 +9,8 @@ const NOTES: &str = "note places: 157 UnsafePlace at 53\n\
     note places: 157 UnsafePlace at 75\n\
     note places: 157 UnsafePlace at 89\n\
     note places: 157 UnsafePlace at 119\n\
-    note places: 158 ActiveAddress at 153\n";
+    note places: 158 ActiveAddress at 153\n\
+    note places: 150 ShownRaw at 170\n";
 
 const RUNS: &[Run] = &[
     // The lines are put, and nothing is reported.

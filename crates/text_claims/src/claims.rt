@@ -8,7 +8,7 @@ ghost use Rattle.text_claims.specs.Limits.{text_end};
 use crate::markup::{after_text, after_value};
 use crate::tags::push_tags;
 use crate::words::{
-    is_word_setting, push_collection, push_of_page, push_shown, push_step, push_targets,
+    is_word_setting, push_collection, push_of_page, push_raw, push_shown, push_step, push_targets,
     push_title, push_word, title_function,
 };
 use lint_spec::{Before, Claim, Markup};
@@ -56,6 +56,7 @@ fn push_name(
         return Ok(());
     }
     push_targets(found, name, item.place)?;
+    push_raw(found, name, item.place)?;
     if is_word_setting(name) {
         push_word(alloc, found, later)
     } else {
@@ -129,7 +130,7 @@ fn next(alloc: Global, before: Before, item: &Item, later: &[Item]) -> Result<Be
         },
         ItemKind::Token(token) => match token {
             TokenKind::Sign(sign) => match *sign {
-                Sign::Dot => Ok(known(before, true, place)),
+                Sign::Dot | Sign::Eq => Ok(known(before, true, place)),
                 _ => Ok(known(before, false, place)),
             },
             _ => Ok(known(before, false, place)),

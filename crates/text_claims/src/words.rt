@@ -6,7 +6,7 @@ ghost use Rattle.lint_spec.specs.QueryClaims.{claim};
 ghost use Rattle.lint_spec.specs.TemplateClaims.{name_of, label_of, is_equals as equals};
 ghost use Rattle.lint_spec.specs.TemplateClaims.{label_claims, word_claims, of_page};
 ghost use Rattle.lint_spec.specs.TemplateClaims.{is_word_setting as word_setting};
-ghost use Rattle.lint_spec.specs.TemplateClaims.{has_label, title_function, title_claims, shown_claims, target_claims};
+ghost use Rattle.lint_spec.specs.TemplateClaims.{has_label, title_function, title_claims, shown_claims, target_claims, raw_claims};
 
 use crate::markup::is_unsafe;
 use lint_spec::{Asked, Claim, Markup};
@@ -218,6 +218,17 @@ pub(crate) fn push_targets(found: &mut Vec<Claim>, name: &Str, at: u64) -> Resul
 {
     if name.bytes() == b"LINK".as_slice() {
         push(found, Asked::Targets, at)
+    } else {
+        Ok(())
+    }
+}
+
+/// Adds what a mode that shows a value as it stands asks for, if the name is one.
+pub(crate) fn push_raw(found: &mut Vec<Claim>, name: &Str, at: u64) -> Result<(), NoMemory>
+    ensures { IfOk result (λ _. found.new.items ≡ found.old.items ++ raw_claims name.now at) }
+{
+    if name.bytes() == b"RAW".as_slice() || name.bytes() == b"PLAIN".as_slice() {
+        push(found, Asked::Raw, at)
     } else {
         Ok(())
     }
