@@ -9,6 +9,7 @@ mod laws;
 mod order;
 mod page;
 mod pieces;
+mod rows;
 mod values;
 mod written;
 

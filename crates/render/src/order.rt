@@ -1,18 +1,21 @@
 // The values of a template's expressions in order.
-ghost use Rattle.std.specs.Prelude.{◌≡◌, List, [], ◌++◌, Contains, IfOk, Option, Some, map, reverse, if◌then◌else◌};
+ghost use Rattle.std.specs.Prelude.{◌≡◌, List, [], ◌∷◌, Contains, IfOk, Option, Some, None, Bool, true, false, map, reverse, if◌then◌else◌};
 ghost use Rattle.std.specs.Option.{option_map};
 ghost use Rattle.sd_value.specs.declared.Value.{Value as AnyValue};
 ghost use Rattle.sd_value.specs.Ascending.{ListsExactly};
 ghost use Rattle.key_spec.specs.Keys.{folded_text, folded_cmp};
+ghost use Rattle.tmpl.specs.declared.SortKey.{SortKey as AnySortKey};
 ghost use Rattle.sort_keys.specs.Keys.{key_of};
-ghost use Rattle.page_spec.specs.Site.{IsLeast, HasPlaces, place, places, row_cmp, limited, Arranged};
+ghost use Rattle.page_spec.specs.declared.Keyed.{Keyed};
+ghost use Rattle.page_spec.specs.Site.{IsLeast, place, places, row_cmp, limited, Arranged};
 ghost use Rattle.demand_spec.specs.Reads.{KeepsOnly};
 ghost use Rattle.render.specs.Asks.{KeyAsks, KeysAsks, ArrangedAsks};
-ghost use Rattle.render.specs.Rows.{HasRow, IsLeastKey};
+ghost use Rattle.render.specs.Rows.{HasRow, IsLeastKey, first_rows};
 
-use crate::values::{range, reached_from};
-use page_spec::{Bound, Keyed, Place, Places};
-use sd_value::{NoMemory, Value, copy, sort_and_dedup};
+use crate::rows::{Row, add_row, keep_first};
+use crate::values::{first, range, reached_from};
+use page_spec::{Bound, Place};
+use sd_value::{NoMemory, Value, copy};
 use site_view::SiteView;
 use sort_keys::{Key, lesser};
 use std::alloc::Global;
@@ -40,9 +43,23 @@ pub fn arranged<V: SiteView>(
     } expr.now order.now vs.items) }
 {
     let values = range(alloc, view, here, loops, expr)?;
-    let rows = with_places(alloc, view, values.as_slice(), order.keys.list())?;
-    let arranged = without_places(alloc, rows)?;
-    Ok(limited(turned(arranged, order.descend), order.limit))
+    match order.keys.list().split_first() {
+        // By no key they stay as they are.
+        None => Ok(limited(turned(values, order.descend), order.limit)),
+        Some((key, more)) => {
+            let limit = first_limit(order);
+            let rows = with_places(alloc, view, values.as_slice(), key, more, limit)?;
+            let arranged = without_places(alloc, rows)?;
+            Ok(limited(turned(arranged, order.descend), order.limit))
+        }
+    }
+}
+
+/// How many of the first rows are enough: of an order that is turned round all are needed.
+fn first_limit(order: &Order) -> Option<usize>
+    ensures { result ≡ (if order.now.descend then None else order.now.limit) }
+{
+    if order.descend { None } else { order.limit }
 }
 
 fn limited(mut values: Vec<Value>, limit: Option<usize>) -> Vec<Value>
@@ -63,124 +80,139 @@ fn turned(mut values: Vec<Value>, descend: bool) -> Vec<Value>
     values
 }
 
-/// The values with their places by the keys, in order. The keys of each value are found once.
+/// The first of the values with their places by the keys, in order. The keys of each value are found once.
 fn with_places<V: SiteView>(
     alloc: Global,
     view: &mut V,
     values: &[Value],
-    keys: &[SortKey],
-) -> Result<Vec<Keyed>, NoMemory>
+    key: &SortKey,
+    more: &[SortKey],
+    limit: Option<usize>,
+) -> Result<Vec<Row>, NoMemory>
     requires own { V.Own view.old }
     ensures own { V.Own view.new }
     ensures fixed { V.fixed view.new ≡ V.fixed view.old }
     ensures kept { KeepsOnly
         (λ q. (v : AnyValue) × Contains values.now v
-        × KeysAsks (V.site (V.fixed view.old)) keys.now v q) (V.kept view.old) (V.kept view.new) }
-    ensures answer { IfOk result (λ rows. ListsExactly row_cmp
+        × KeysAsks (V.site (V.fixed view.old)) (key.now ∷ more.now) v q)
+        (V.kept view.old) (V.kept view.new) }
+    ensures answer { IfOk result (λ rows. (all : List Keyed)
+        × ListsExactly row_cmp
         (λ r. (v : AnyValue) × Contains values.now v
-        × HasRow (V.site (V.fixed view.old)) keys.now v r) rows.items) }
+        × HasRow (V.site (V.fixed view.old)) (key.now ∷ more.now) v r) all
+        × (rows.items ≡ first_rows limit all)) }
 {
     let mut rows = Vec::new(alloc);
     for value in values {
-        let places = places_of(alloc, view, value, keys)?;
-        let value = copy(alloc, value)?;
-        rows.push(Keyed { places, value })?;
+        let row = row_of(alloc, view, value, key, more)?;
+        add_row(&mut rows, row, limit)?;
     }
-    sort_and_dedup(&mut rows);
+    keep_first(&mut rows, limit);
     Ok(rows)
 }
 
-fn without_places(alloc: Global, rows: Vec<Keyed>) -> Result<Vec<Value>, NoMemory>
+fn without_places(alloc: Global, rows: Vec<Row>) -> Result<Vec<Value>, NoMemory>
     ensures { IfOk result (λ vs. vs.items ≡ map (λ r. r.value) rows.items) }
 {
     let values = rows.into_iter().map(|row| row.value).collect(alloc)?;
     Ok(values)
 }
 
-/// Where the value stands by the keys, one after another.
-fn places_of<V: SiteView>(
-    alloc: Global,
-    view: &mut V,
-    value: &Value,
-    keys: &[SortKey],
-) -> Result<Places, NoMemory>
-    requires own { V.Own view.old }
-    ensures own { V.Own view.new }
-    ensures fixed { V.fixed view.new ≡ V.fixed view.old }
-    ensures kept { KeepsOnly (KeysAsks (V.site (V.fixed view.old)) keys.now value.now)
-        (V.kept view.old) (V.kept view.new) }
-    ensures answer { IfOk result
-        (λ ps. HasPlaces (V.site (V.fixed view.old)) keys.now value.now ps) }
-{
-    // Most keys give one place.
-    let mut list = Vec::with_capacity(alloc, keys.len())?;
-    for key in keys {
-        add_places(alloc, view, value, key, &mut list)?;
-    }
-    Ok(Places::new(list))
-}
-
-/// Puts where the value stands by the key after the other places.
-fn add_places<V: SiteView>(
+/// The value and where it stands by the keys, one after another.
+fn row_of<V: SiteView>(
     alloc: Global,
     view: &mut V,
     value: &Value,
     key: &SortKey,
-    list: &mut Vec<Place>,
-) -> Result<(), NoMemory>
+    more: &[SortKey],
+) -> Result<Row, NoMemory>
+    requires own { V.Own view.old }
+    ensures own { V.Own view.new }
+    ensures fixed { V.fixed view.new ≡ V.fixed view.old }
+    ensures kept { KeepsOnly
+        (KeysAsks (V.site (V.fixed view.old)) (key.now ∷ more.now) value.now)
+        (V.kept view.old) (V.kept view.new) }
+    ensures answer { IfOk result
+        (λ r. HasRow (V.site (V.fixed view.old)) (key.now ∷ more.now) value.now r) }
+{
+    let (place, mut list) = places_by(alloc, view, value, key)?;
+    for further in more {
+        let (next, mut tie) = places_by(alloc, view, value, further)?;
+        list.push(next)?;
+        list.append(&mut tie)?;
+    }
+    let value = copy(alloc, value)?;
+    Ok(Row { place, more: list, value })
+}
+
+/// Where the value stands by the key. With FOLD the text itself is a place after that of the folded one.
+fn places_by<V: SiteView>(
+    alloc: Global,
+    view: &mut V,
+    value: &Value,
+    key: &SortKey,
+) -> Result<(Place, Vec<Place>), NoMemory>
     requires own { V.Own view.old }
     ensures own { V.Own view.new }
     ensures fixed { V.fixed view.new ≡ V.fixed view.old }
     ensures kept { KeepsOnly (KeyAsks (V.site (V.fixed view.old)) (Some key.now.word) value.now)
         (V.kept view.old) (V.kept view.new) }
-    ensures answer { IfOk result (λ _. (k : Option AnyValue)
+    ensures answer { IfOk result (λ ps. (k : Option AnyValue)
         × IsLeast (V.site (V.fixed view.old))
         (folded_cmp folded_text key.now.fold) key.now.word value.now k
-        × (list.new.items ≡ list.old.items ++ places key.now k)) }
+        × (places key.now k ≡ ps.0 ∷ ps.1.items)) }
 {
     let values = reached_from(alloc, view, value, &key.word)?;
-    let least = least(alloc, key.fold, values.as_slice())?;
-    add_least(key, least, list)
+    if key.fold {
+        let least = least(alloc, values.as_slice())?;
+        folded_places(alloc, key.descend, least)
+    } else {
+        let place = plain_place(key.descend, first(values));
+        Ok((place, Vec::new(alloc)))
+    }
 }
 
-/// The least of the values as keys, if there is one.
-fn least(alloc: Global, by_fold: bool, values: &[Value]) -> Result<Option<Key>, NoMemory>
-    ensures { IfOk result (λ k. IsLeastKey by_fold values.now k) }
+/// The least of the values by their folded texts, if there is one.
+fn least(alloc: Global, values: &[Value]) -> Result<Option<Key>, NoMemory>
+    ensures { IfOk result (λ k. IsLeastKey true values.now k) }
 {
     let mut least = None;
     for value in values {
-        let key = Key::of(alloc, by_fold, value)?;
+        let key = Key::of(alloc, true, value)?;
         least = lesser(least, Some(key));
     }
     Ok(least)
 }
 
-/// Puts where a value stands that has this least key after the other places.
-fn add_least(key: &SortKey, least: Option<Key>, list: &mut Vec<Place>) -> Result<(), NoMemory>
-    ensures { IfOk result (λ _. (k : Option AnyValue) → least ≡ option_map (key_of key.now.fold) k
-        → list.new.items ≡ list.old.items ++ places key.now k) }
+/// Where a value stands that has this least key, by the folded text and then by the text itself.
+fn folded_places(
+    alloc: Global,
+    descend: bool,
+    least: Option<Key>,
+) -> Result<(Place, Vec<Place>), NoMemory>
+    ensures { IfOk result (λ ps. (key : AnySortKey) (k : Option AnyValue) → key.fold ≡ true
+        → key.descend ≡ descend → least ≡ option_map (key_of true) k
+        → places key k ≡ ps.0 ∷ ps.1.items) }
 {
+    let mut more = Vec::new(alloc);
     match least {
-        None => {
-            list.push(Place::Last)?;
-            Ok(())
+        None => Ok((Place::Last, more)),
+        Some(least) => {
+            let (stands, value) = least.into_parts();
+            more.push(place(descend, value))?;
+            Ok((place(descend, stands), more))
         }
-        Some(least) => add_key(key, least, list),
     }
 }
 
-fn add_key(key: &SortKey, least: Key, list: &mut Vec<Place>) -> Result<(), NoMemory>
-    ensures { IfOk result (λ _. (v : AnyValue) → least ≡ key_of key.now.fold v
-        → list.new.items ≡ list.old.items ++ places key.now (Some v)) }
+/// Where a value stands by this one, or last without one.
+fn plain_place(descend: bool, value: Option<Value>) -> Place
+    ensures { (key : AnySortKey) → key.fold ≡ false → key.descend ≡ descend
+        → places key value ≡ result ∷ [] }
 {
-    let (stands, value) = least.into_parts();
-    if key.fold {
-        list.push(place(key.descend, stands))?;
-        list.push(place(key.descend, value))?;
-        Ok(())
-    } else {
-        list.push(place(key.descend, value))?;
-        Ok(())
+    match value {
+        None => Place::Last,
+        Some(value) => place(descend, value),
     }
 }
 

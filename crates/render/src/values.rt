@@ -156,9 +156,14 @@ pub fn reached_from<V: SiteView>(
     ensures answer { IfOk result (λ vs. ListsExactly value_cmp
         (Reaches (V.site (V.fixed view.old)) value.now word.now) vs.items) }
 {
-    let from = alone(alloc, value)?;
-    let values = reached(alloc, view, from, word.labels())?;
-    Ok(values)
+    match word.labels().split_first() {
+        None => alone(alloc, value),
+        Some((label, more)) => {
+            let ends = view.out(alloc, value, label)?;
+            let values = reached(alloc, view, ends, more)?;
+            Ok(values)
+        }
+    }
 }
 
 /// The least value that the word reaches from the value, if there is a word and it reaches one.
