@@ -1,6 +1,7 @@
 -- What a file of templates asks for, at each place of its text, in the text's order.
-use Rattle.std.specs.Prelude.{ℕ, ◌+◌, Bool, true, false, not, ◌&&◌, ◌||◌, List, [], ◌∷◌, ◌++◌}
-use Rattle.std.specs.Prelude.{map, if◌then◌else◌, codes, Option, Some, None}
+use Rattle.std.specs.Prelude.{ℕ, ◌+◌, ◌==◌, Bool, true, false, not, ◌&&◌, ◌||◌, List, [], ◌∷◌, ◌++◌}
+use Rattle.std.specs.Prelude.{map, if◌then◌else◌, codes, Option, Some, None, nat_eq, nat_le}
+use Rattle.std.specs.List.{starts_with}
 use Rattle.std.specs.Char.{to_ascii_uppercase}
 use Rattle.std.specs.Option.{is_some}
 use Rattle.std.specs.Str.{bytes_eq}
@@ -22,19 +23,70 @@ use Rattle.lint_spec.specs.declared.Markup.TheVariants.{Content}
 use Rattle.lint_spec.specs.Markup.{after_text, after_value, is_unsafe}
 use Rattle.lint_spec.specs.QueryClaims.{claim}
 
--- ---- tags in other letters
+-- ---- tags in other letters, and tags that there aren't
 
--- the tags with which a text begins at any of its bytes, of which the first is at this place
-abbrev pub tags_from : ℕ → List ℕ → List Claim
-tags_from at [] = []
-tags_from at (b ∷ bytes) =
-    (if is_some (tag_at (b ∷ bytes)) then claim asked.Tag at ∷ [] else [])
-    ++ tags_from (at + 1) bytes
+-- the bytes begin with this word
+abbrev pub begins : Name → List ℕ → Bool
+begins word bytes = starts_with nat_eq bytes word
 
--- The tags that a text between tags has in other letters: those that it has with capitals for its
--- small letters. As it is it has none.
+-- the bytes begin with an element of HTML, of those from SAMP to SMALL
+abbrev pub is_element_to_small : List ℕ → Bool
+is_element_to_small bytes =
+    begins (codes "SAMP") bytes || (begins (codes "SCRIPT") bytes
+    || (begins (codes "SEARCH") bytes || (begins (codes "SECTION") bytes
+    || (begins (codes "SELECT") bytes || (begins (codes "SLOT") bytes
+    || begins (codes "SMALL") bytes)))))
+
+-- of those from SOURCE to STRONG
+abbrev pub is_element_to_strong : List ℕ → Bool
+is_element_to_strong bytes =
+    begins (codes "SOURCE") bytes || (begins (codes "SPACER") bytes
+    || (begins (codes "SPAN") bytes || (begins (codes "STRIKE") bytes
+    || begins (codes "STRONG") bytes)))
+
+-- of those from STYLE to SVG
+abbrev pub is_element_to_svg : List ℕ → Bool
+is_element_to_svg bytes =
+    begins (codes "STYLE") bytes || (begins (codes "SUB") bytes
+    || (begins (codes "SUMMARY") bytes || (begins (codes "SUP") bytes
+    || begins (codes "SVG") bytes)))
+
+-- the bytes begin with the name of an element of HTML that begins with S
+abbrev pub is_element : List ℕ → Bool
+is_element bytes =
+    is_element_to_small bytes || (is_element_to_strong bytes || is_element_to_svg bytes)
+
+abbrev pub starts_capital : List ℕ → Bool
+starts_capital [] = false
+starts_capital (b ∷ bytes) = nat_le 65 b && nat_le b 90
+
+-- the bytes begin with S and a further capital, and not with an element of HTML
+abbrev pub is_unknown_name : List ℕ → Bool
+is_unknown_name [] = false
+is_unknown_name (b ∷ bytes) = b == 83 && (starts_capital bytes && not (is_element (b ∷ bytes)))
+
+-- the bytes without a `/` in front
+abbrev pub behind_slash : List ℕ → List ℕ
+behind_slash [] = []
+behind_slash (b ∷ bytes) = if b == 47 then bytes else b ∷ bytes
+
+-- the bytes begin with a tag that looks like one of templates
+abbrev pub is_unknown_tag : List ℕ → Bool
+is_unknown_tag [] = false
+is_unknown_tag (b ∷ bytes) = b == 60 && is_unknown_name (behind_slash bytes)
+
+-- The bytes, in which no tag of templates begins, begin with one in other letters, namely with
+-- capitals for small ones, or with one that there isn't.
+abbrev pub is_misspelled : List ℕ → Bool
+is_misspelled bytes = is_some (tag_at (map to_ascii_uppercase bytes)) || is_unknown_tag bytes
+
+abbrev pub misspelled : ℕ → List ℕ → List Claim
+misspelled at bytes = if is_misspelled bytes then claim asked.Tag at ∷ [] else []
+
+-- the misspelled tags in a text between tags, of which the first byte is at this place
 abbrev pub tag_claims : ℕ → List ℕ → List Claim
-tag_claims at bytes = tags_from at (map to_ascii_uppercase bytes)
+tag_claims at [] = []
+tag_claims at (b ∷ bytes) = misspelled at (b ∷ bytes) ++ tag_claims (at + 1) bytes
 
 -- ---- labels and collections
 

@@ -43,10 +43,10 @@ pub fn arranged<V: SiteView>(
     } expr.now order.now vs.items) }
 {
     let values = range(alloc, view, here, loops, expr)?;
-    match order.keys.list().split_first() {
+    match order.keys.list() {
         // By no key they stay as they are.
-        None => Ok(limited(turned(values, order.descend), order.limit)),
-        Some((key, more)) => {
+        [] => Ok(limited(turned(values, order.descend), order.limit)),
+        [key, more @ ..] => {
             let limit = first_limit(order);
             let rows = with_places(alloc, view, values.as_slice(), key, more, limit)?;
             let arranged = without_places(alloc, rows)?;
@@ -142,7 +142,11 @@ fn row_of<V: SiteView>(
         list.append(&mut tie)?;
     }
     let value = copy(alloc, value)?;
-    Ok(Row { place, more: list, value })
+    Ok(Row {
+        place,
+        more: list,
+        value,
+    })
 }
 
 /// Where the value stands by the key. With FOLD the text itself is a place after that of the folded one.

@@ -156,9 +156,9 @@ pub fn reached_from<V: SiteView>(
     ensures answer { IfOk result (λ vs. ListsExactly value_cmp
         (Reaches (V.site (V.fixed view.old)) value.now word.now) vs.items) }
 {
-    match word.labels().split_first() {
-        None => alone(alloc, value),
-        Some((label, more)) => {
+    match word.labels() {
+        [] => alone(alloc, value),
+        [label, more @ ..] => {
             let ends = view.out(alloc, value, label)?;
             let values = reached(alloc, view, ends, more)?;
             Ok(values)
