@@ -1,5 +1,5 @@
 -- Which questions are kept, from call to call.
-use Rattle.std.proofs.Common.{◌≡◌, ℕ, zero, suc, ◌<◌, List, [], ◌∷◌, length, get_or, take, inl, inr, ⊎_elim, sym, subst, arith}
+use Rattle.std.proofs.Common.{◌≡◌, ℕ, zero, suc, ◌<◌, List, [], ◌∷◌, length, get_or, take, inl, inr, ⊎_elim, refl, sym, subst, arith}
 use Rattle.std.specs.Prelude.{Contains, map, reverse, if◌then◌else◌, Bool, true, false}
 use Rattle.std.proofs.lemmas.List.{reverse-reverse}
 use Rattle.page_spec.proofs.Unique.{limited_in}
@@ -8,7 +8,9 @@ use Rattle.sd_value.specs.declared.Value.{Value}
 use Rattle.sd_value.specs.Members.{Contains-map}
 use Rattle.page_spec.specs.declared.Keyed.{Keyed}
 use Rattle.page_spec.specs.Site.{Site, Env, Reaches, InRange, values_of_rows, Arranged}
-use Rattle.page_spec.specs.Question.{Question, MayKeep}
+use Rattle.sd_value.specs.Order.{value_cmp}
+use Rattle.sd_value.specs.Ascending.{ListsExactly}
+use Rattle.page_spec.specs.Question.{Question, MayKeep, out}
 use Rattle.tmpl.specs.declared.Expr.{Expr}
 use Rattle.tmpl.specs.declared.Order.{Order}
 use Rattle.demand_spec.specs.Reads.{Name, Word, Passes, KeepsOnly}
@@ -44,6 +46,15 @@ passes_at s w (k ∷ word) (suc i) l u lt is (m, e, r) = inr (m, e, passes_at s 
 -- the word that was asked begins at the values of P
 pub word_from : (s : Site) (from : List Value) (P : Value → Type 0) (labels word : Word) (q : Question) → ((v : Value) → Contains from v → P v) → labels ≡ word → WordAsks s (Contains from) labels q → WordAsks s P word q
 word_from s from P labels word q to e (u, l, is, (w, among, passes)) = (u, l, is, (w, to w among, subst (λ (z : Word). Passes s w z u l) e passes))
+
+-- at the first label it asks the value itself
+pub first_asks : (s : Site) (word : Word) (l : Name) (more : Word) (v : Value) → word ≡ l ∷ more → WordAsks s (λ w. v ≡ w) word (out v l)
+first_asks s word l more v is = (v, l, refl, (v, refl, rw is (inl (refl, refl))))
+
+-- at the others what the ends of the value's edges are asked
+pub later_asks : (s : Site) (word : Word) (l : Name) (more : Word) (v : Value) (ends : List Value) (q : Question) → word ≡ l ∷ more → ListsExactly value_cmp (s.edge v l) ends → WordAsks s (Contains ends) more q → WordAsks s (λ w. v ≡ w) word q
+later_asks s word l more v ends q is of (u, k, e, (w, among, passes)) =
+    (u, k, e, (v, refl, rw is (inr (w, of.sound w among, passes))))
 
 -- a test asks what its expression asks
 pub range_tests : (s : Site) (e : Env) (x : Expr) (test : Test) (q : Question) → RangeAsks s e x q → TestAsks s e x test q

@@ -5,6 +5,7 @@ use Rattle.std.specs.declared.cmp.Ordering.{Ordering}
 use Rattle.std.specs.declared.cmp.Ordering.TheVariants.{Less, Equal, Greater}
 use Rattle.std.specs.Ordering.{match_ordering}
 use Rattle.std.specs.BTreeSet.{insert_key}
+use Rattle.std.specs.List.{AllByRecursion}
 use Rattle.std.specs.List.Sorted.{IsStrictlySortedBy}
 use Rattle.std.proofs.lemmas.List.{take-take, take-map}
 use Rattle.std.proofs.lemmas.List.Elements.{Contains-append_left, Contains-push_cases, Contains-push}
@@ -14,11 +15,16 @@ use Rattle.sd_value.specs.declared.Value.{Value}
 use Rattle.sd_value.specs.Ascending.{ListsExactly}
 use Rattle.sd_value.specs.AscendingLaws.{lists_nothing}
 use Rattle.sd_value.proofs.Gathering.{nothing_in}
+use Rattle.sd_value.specs.Order.{value_cmp}
+use Rattle.sd_value.specs.Members.{Contains-map, Contains-mapped}
+use Rattle.tmpl.specs.declared.Expr.{Expr}
 use Rattle.tmpl.specs.declared.Order.{Order}
+use Rattle.tmpl.specs.declared.SortKey.{SortKey}
 use Rattle.page_spec.specs.declared.Keyed.{Keyed}
-use Rattle.page_spec.specs.Site.{row_cmp, limited, values_of_rows}
+use Rattle.page_spec.specs.Site.{Site, Env, InRange, Arranged, row_cmp, limited, values_of_rows}
 use Rattle.page_spec.specs.KeyLaws.{row_cmp_total, row_same}
-use Rattle.render.specs.Rows.{first_rows, HasFirstOf}
+use Rattle.render.specs.Rows.{HasRow, first_rows, HasFirstOf}
+use Rattle.render.proofs.Keys.{in_rows}
 
 -- ---- a row is put into ascending ones
 
@@ -87,7 +93,7 @@ firsts_end limit seen rows left (all, sorted, of_seen, of_rows, same) keeps =
 
 -- ---- the values of an order
 
-value_of_row : Keyed → Value
+abbrev value_of_row : Keyed → Value
 value_of_row r = r.value
 
 -- of an order that isn't turned round the first rows give the first values
@@ -106,5 +112,38 @@ first_values o rows = by o.descend o.limit
 -- ---- values by no key
 
 -- a value without a place
-abbrev pub plain : Value → Keyed
+abbrev plain : Value → Keyed
 plain v = record { places = []; value = v }
+
+plain_above : (v : Value) (vs : List Value) → AllByRecursion (λ w. value_cmp v w ≡ Less) vs → AllByRecursion (λ r. row_cmp (plain v) r ≡ Less) (map plain vs)
+plain_above v [] h = tt
+plain_above v (w ∷ ws) h = (h.0, plain_above v ws h.1)
+
+plain_ascends : (vs : List Value) → IsStrictlySortedBy value_cmp vs → IsStrictlySortedBy row_cmp (map plain vs)
+unfolding IsStrictlySortedBy
+plain_ascends [] up = tt
+plain_ascends (v ∷ vs) up = (plain_above v vs up.0, plain_ascends vs up.1)
+
+plain_values : (vs : List Value) → map value_of_row (map plain vs) ≡ vs
+plain_values [] = refl
+plain_values (v ∷ vs) = ap (λ l. v ∷ l) (plain_values vs)
+
+pub by_no_key : (s : Site) (e : Env) (x : Expr) (o : Order) (vs out : List Value) → o.keys ≡ [] → ListsExactly value_cmp (InRange s e x) vs → out ≡ limited o.limit (if o.descend then reverse vs else vs) → Arranged s e x o out
+by_no_key s e x o vs out none exact is = (
+  map plain vs,
+  record {
+    ascending = plain_ascends vs exact.ascending;
+    sound = λ r h. let q = Contains-map plain vs r h in rw none (subst (λ (y : Keyed). InRange s e x y.value × (y.places ≡ [])) q.1 (exact.sound q.0 q.2, refl));
+    complete = λ r h. let has : r.places ≡ [] = (rw none at h.1) in let same : plain r.value ≡ r = λ i. record { places = sym has i; value = r.value } in subst (Contains (map plain vs)) same (Contains-mapped plain vs r.value (exact.complete r.value h.0));
+  },
+  is ∙ ap (λ (l : List Value). limited o.limit (if o.descend then reverse l else l)) (sym (plain_values vs)),
+)
+
+-- ---- values by keys
+
+pub by_keys : (s : Site) (e : Env) (x : Expr) (o : Order) (keys : List SortKey) (vs out arranged : List Value) (rows all : List Keyed) → keys ≡ o.keys → ListsExactly value_cmp (InRange s e x) vs → ListsExactly row_cmp (λ r. (v : Value) × Contains vs v × HasRow s keys v r) all → rows ≡ first_rows (if o.descend then None else o.limit) all → arranged ≡ map value_of_row rows → out ≡ limited o.limit (if o.descend then reverse arranged else arranged) → Arranged s e x o out
+by_keys s e x o keys vs out arranged rows all same exact of_all first is end = (
+  all,
+  in_rows s e x o.keys vs all exact (subst (λ (ks : List SortKey). ListsExactly row_cmp (λ r. (v : Value) × Contains vs v × HasRow s ks v r) all) same of_all),
+  end ∙ ap (λ (l : List Value). limited o.limit (if o.descend then reverse l else l)) (is ∙ ap (map value_of_row) first) ∙ first_values o all,
+)
