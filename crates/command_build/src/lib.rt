@@ -57,7 +57,7 @@ fn write_built<F: Files>(
     ensures cause { WritesHaveCause (IsSiteFile (inputs_of inputs) folder.now)
         (F.failed_writes files.old) (F.failed_writes files.new) result }
     ensures traced { (part : List Happening) × (F.trace files.new ≡ F.trace files.old ++ part)
-        × WritesBuilt (inputs_of inputs) folder.now result part }
+        × WritesBuilt (inputs_of inputs) folder.now (F.contents files.old) result part }
 {
     let scopes = scopes(alloc, &inputs.query)?;
     let store = IndexStore::of(alloc, inputs.graph)?;
@@ -87,7 +87,7 @@ fn write_noted<L: Trace, F: Files<Log = L>>(
     ensures cause { WritesHaveCause (IsSiteFile (inputs_of inputs) folder.now)
         (F.failed_writes files.old) (F.failed_writes files.new) result }
     ensures course { (part : List Happening) × (L.events log.new ≡ L.events log.old ++ part)
-        × WritesBuilt (inputs_of inputs) folder.now result part }
+        × WritesBuilt (inputs_of inputs) folder.now (F.contents files.old) result part }
     ensures lent { F.trace files.new ≡ F.trace files.old }
 {
     files.lend(log);
