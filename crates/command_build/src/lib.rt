@@ -73,6 +73,18 @@ fn write_built<F: Files>(
     }
 }
 
+// Has the files wait for the disk, if they are to.
+fn choose_durable<F: Files>(files: &mut F, durable: bool)
+    ensures traced { F.trace files.new ≡ F.trace files.old }
+    ensures same { F.contents files.new ≡ F.contents files.old }
+    ensures reads { F.failed_reads files.new ≡ F.failed_reads files.old }
+    ensures writes { F.failed_writes files.new ≡ F.failed_writes files.old }
+{
+    if durable {
+        files.be_durable();
+    }
+}
+
 // Writes the site of the inputs, while the log is lent to the files.
 fn write_noted<L: Trace, F: Files<Log = L>>(
     alloc: Global,
@@ -80,6 +92,7 @@ fn write_noted<L: Trace, F: Files<Log = L>>(
     files: &mut F,
     inputs: SiteInputs,
     folder: &Str,
+    durable: bool,
 ) -> Result<Str, Stop>
     ensures ends { ForSome (F.contents files.old) (λ old. IsSomeAnd (F.contents files.new) (λ new.
         BuiltEnds (inputs_of inputs) folder.now old new result)) }
@@ -90,6 +103,7 @@ fn write_noted<L: Trace, F: Files<Log = L>>(
         × WritesBuilt (inputs_of inputs) folder.now (F.contents files.old) result part }
     ensures lent { F.trace files.new ≡ F.trace files.old }
 {
+    choose_durable(files, durable);
     files.lend(log);
     let result = write_built(alloc, files, inputs, folder);
     files.lend(log);
@@ -149,7 +163,14 @@ pub fn build<L: Trace, F: Files<Log = L>, O: Sink<Log = L>>(
         Ok(inputs) => inputs,
         Err(fault) => return Status::from(fault),
     };
-    match write_noted(alloc, log, files, inputs, &command.folder) {
+    match write_noted(
+        alloc,
+        log,
+        files,
+        inputs,
+        &command.folder,
+        command.durable,
+    ) {
         Ok(line) => match put_noted(log, line.bytes(), out) {
             Ok(()) => Status::Ok,
             Err(_) => Status::WriteFault,

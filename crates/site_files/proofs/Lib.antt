@@ -3,4 +3,5 @@ pub mod Causes
 pub mod InTurn
 pub mod Puts
 pub mod Sparing
+pub mod Standing
 pub mod Writing

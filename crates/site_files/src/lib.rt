@@ -2,9 +2,11 @@
 #![tactic(auto)]
 
 mod index;
+mod laws;
 mod pages;
 mod paths;
 mod written;
 
+pub use laws::standing_files_stay;
 pub use pages::write_pages;
 pub use written::write_site;
