@@ -1,6 +1,6 @@
 -- Files that have their texts already.
-use Rattle.std.proofs.Common.{◌≡◌, ◌∙◌, ℕ, zero, suc, ◌<◌, List, [], ◌∷◌, ◌++◌, length, inl, inr, refl, sym, subst, arith}
-use Rattle.std.specs.Prelude.{Contains, Bool, true, false, Option, Some, None, Result, Ok, Err, ⊤}
+use Rattle.std.proofs.Common.{◌≡◌, ◌∙◌, ℕ, zero, suc, ◌<◌, List, [], ◌∷◌, ◌++◌, length, inl, inr, refl, sym, ap, subst, arith}
+use Rattle.std.specs.Prelude.{◌⊎◌, Contains, Bool, true, false, Option, Some, None, Result, Ok, Err, ⊤}
 use Rattle.std.specs.Prelude.{map as map_list}
 use Rattle.std.specs.List.{AllZip}
 use Rattle.std.specs.Str.{bytes_eq}
@@ -15,10 +15,12 @@ use Rattle.page_spec.specs.Page.{IsOutcome}
 use Rattle.page_spec.specs.declared.Outcome.TheVariants as outcome
 use Rattle.files_spec.specs.declared.stop.Stop.{Stop}
 use Rattle.files_spec.specs.declared.stop.Stop.TheVariants.{Faulty, Unwritten, NoMemory}
-use Rattle.files_spec.specs.Files.{root_term}
+use Rattle.files_spec.specs.Files.{root_term, IsPageText, PagesWritten, IndexWritten, IndexEnds, RootEnds, SiteEnds}
+use Rattle.page_spec.proofs.Texts.{outcome_unique}
+use Rattle.page_spec.specs.declared.Outcome.{Outcome}
 use Rattle.files_spec.specs.Paths.{page_path, index_path}
 use Rattle.files_spec.specs.Writes.{IsPut, IsPageWritten, after_put, SpareEqual, WritesSome, PagesWrite, IndexWrites, PagesThenIndex, SiteWrites, failed_write}
-use Rattle.files_spec.specs.Standing.{WritesNone, IsStanding, StandingStays}
+use Rattle.files_spec.specs.Standing.{WritesNone, IsStanding, StandingStays, AreApart, WrittenStands}
 
 -- ---- puts of what is there
 
@@ -126,3 +128,116 @@ module _ (s : Site) (f : TemplateFile) (folder : List ℕ) (root : Option (List 
 pub standing_stays : (s : Site) (f : TemplateFile) (folder : List ℕ) (terms : List Term) (root : Option (List ℕ)) → StandingStays s f folder terms root
 standing_stays s f folder terms root map part end writes spare stands =
     none_written map map part (λ path. refl) (site_right s f folder root map terms stands part end writes) spare
+
+-- ---- after a whole site is written
+
+at_put : (map : FileMap) (path text other : List ℕ) → put_file map path text other ≡ Some text ⊎ ((path ≡ other → ⊥) × (put_file map path text other ≡ map other))
+at_put map path text other = by (bytes_eq path other) refl
+  where
+    by : (b : Bool) → bytes_eq path other ≡ b → put_file map path text other ≡ Some text ⊎ ((path ≡ other → ⊥) × (put_file map path text other ≡ map other))
+    by true e = inl (rw e refl)
+    by false e = inr (let differ : path ≡ other → ⊥ = λ same. grind (arith, e, same, bytes_eq-Decides path other) in (differ, rw e refl))
+
+put_there : (map : FileMap) (path text : List ℕ) → put_file map path text path ≡ Some text
+put_there map path text = elim (at_put map path text path) [ | inl is ↦ is | inr other ↦ absurd (other.0 refl) ]
+
+module _ (s : Site) (f : TemplateFile) (folder : List ℕ) where
+  -- the page of one of these terms is at the path
+  record IsPageAt (ts : List Term) (new : FileMap) (path : List ℕ) : Type 0 where
+    t : Term
+    among : Contains ts t
+    is_path : page_path folder t ≡ path
+    text : List ℕ
+    is_text : IsOutcome s f t (outcome.Page text)
+    there : new path ≡ Some text
+
+  later : (u : Term) (ts : List Term) (new : FileMap) (path : List ℕ) → IsPageAt ts new path → IsPageAt (u ∷ ts) new path
+  later u ts new path p = record { t = p.t; among = (let (i, within, is) = p.among in (suc i, omega (within, arith), is)); is_path = p.is_path; text = p.text; is_text = p.is_text; there = p.there }
+
+  page_or_old : (ts : List Term) (old new : FileMap) (path : List ℕ) → PagesWritten s f folder ts old new → IsPageAt ts new path ⊎ (new path ≡ old path)
+  page_or_old [] old new path w = inr (ap (λ (m : FileMap). m path) w)
+  page_or_old (u ∷ ts) old new path w =
+      elim (page_or_old ts (put_file old (page_path folder u) w.0) new path w.2) [
+        | inl at ↦ inl (later u ts new path at)
+        | inr same ↦ at_head (bytes_eq (page_path folder u) path) refl same
+      ]
+    where
+      at_head : (b : Bool) → bytes_eq (page_path folder u) path ≡ b → new path ≡ put_file old (page_path folder u) w.0 path → IsPageAt (u ∷ ts) new path ⊎ (new path ≡ old path)
+      at_head true e same =
+          let is : page_path folder u ≡ path = grind (arith, e, bytes_eq-Decides (page_path folder u) path) in
+          inl (record { t = u; among = (zero, omega arith, refl); is_path = is; text = w.0; is_text = w.1.is_outcome; there = same ∙ rw e refl })
+      at_head false e same = inr (same ∙ rw e refl)
+
+  -- some page is at the path of each
+  some_page : (ts : List Term) (old new : FileMap) (t : Term) → PagesWritten s f folder ts old new → Contains ts t → IsPageAt ts new (page_path folder t)
+  some_page [] old new t w (i, within, is) = absurd (omega (within, arith))
+  some_page (u ∷ ts) old new t w (suc i, within, is) =
+      later u ts new (page_path folder t) (some_page ts (put_file old (page_path folder u) w.0) new t w.2 (i, omega (within, arith), is))
+  some_page (u ∷ ts) old new t w (zero, within, is) =
+      elim (page_or_old ts (put_file old (page_path folder u) w.0) new (page_path folder t) w.2) [
+        | inl at ↦ later u ts new (page_path folder t) at
+        | inr same ↦ record {
+            t = u;
+            among = (zero, omega arith, refl);
+            is_path = ap (page_path folder) is;
+            text = w.0;
+            is_text = w.1.is_outcome;
+            there = same ∙ subst (λ (v : Term). put_file old (page_path folder u) w.0 (page_path folder v) ≡ Some w.0) is (put_there old (page_path folder u) w.0);
+          }
+      ]
+
+  same_text : (t : Term) (a b : List ℕ) → IsOutcome s f t (outcome.Page a) → IsOutcome s f t (outcome.Page b) → a ≡ b
+  same_text t a b x y = let e : ◌≡◌ {A = Outcome} (outcome.Page a) (outcome.Page b) = outcome_unique s f t (outcome.Page a) (outcome.Page b) x y in cc
+
+  module _ (terms : List Term) (root : Option (List ℕ)) (apart : AreApart s f folder terms root) where
+    pages_stand : (old new : FileMap) (t : Term) (text : List ℕ) → PagesWritten s f folder terms old new → Contains terms t → IsOutcome s f t (outcome.Page text) → new (page_path folder t) ≡ Some text
+    pages_stand old new t text w among is =
+        let at = some_page terms old new t w among in
+        let same : at.t ≡ t = apart.pages at.t t at.among among at.is_path in
+        let its : IsOutcome s f t (outcome.Page at.text) = subst (λ (u : Term). IsOutcome s f u (outcome.Page at.text)) same at.is_text in
+        at.there ∙ ap (λ (x : List ℕ). Some x) (same_text t at.text text its is)
+
+    -- `index.html` is written last, over nothing but the root's own page
+    over_index : (function written : List ℕ) (now new : FileMap) → root ≡ Some function → IsOutcome s f (root_term function) (outcome.Page written) → new ≡ put_file now (index_path folder) written
+        → ((t : Term) (text : List ℕ) → Contains terms t → IsOutcome s f t (outcome.Page text) → now (page_path folder t) ≡ Some text)
+        → IsStanding s f folder terms root new
+    over_index function written now new is_root is_written is_new stand = record {
+      pages = λ t text among is. by t text among is (bytes_eq (index_path folder) (page_path folder t)) refl;
+      index = λ other text other_root among is.
+          let same_root : Some function ≡ Some other = sym is_root ∙ other_root in
+          let same : function ≡ other = cc in
+          let its : IsOutcome s f (root_term other) (outcome.Page written) = subst (λ (g : List ℕ). IsOutcome s f (root_term g) (outcome.Page written)) same is_written in
+          ap (λ (m : FileMap). m (index_path folder)) is_new ∙ put_there now (index_path folder) written ∙ ap (λ (x : List ℕ). Some x) (same_text (root_term other) written text its is);
+    }
+      where
+        by : (t : Term) (text : List ℕ) → Contains terms t → IsOutcome s f t (outcome.Page text) → (b : Bool) → bytes_eq (index_path folder) (page_path folder t) ≡ b → new (page_path folder t) ≡ Some text
+        by t text among is true e =
+            let path_is : index_path folder ≡ page_path folder t = grind (arith, e, bytes_eq-Decides (index_path folder) (page_path folder t)) in
+            let page_is : t ≡ root_term function = apart.index t function among is_root (sym path_is) in
+            let its : IsOutcome s f t (outcome.Page written) = subst (λ (u : Term). IsOutcome s f u (outcome.Page written)) (sym page_is) is_written in
+            ap (λ (m : FileMap). m (page_path folder t)) is_new ∙ subst (λ (p : List ℕ). put_file now (index_path folder) written p ≡ Some written) path_is (put_there now (index_path folder) written)
+            ∙ ap (λ (x : List ℕ). Some x) (same_text t written text its is)
+        by t text among is false e = ap (λ (m : FileMap). m (page_path folder t)) is_new ∙ rw e (stand t text among is)
+
+    no_index_needed : (now new : FileMap) → new ≡ now → ((t : Term) (text : List ℕ) → Contains terms t → IsOutcome s f t (outcome.Page text) → now (page_path folder t) ≡ Some text)
+        → ((function : List ℕ) → root ≡ Some function → Contains terms (root_term function) → ⊥) → IsStanding s f folder terms root new
+    no_index_needed now new is stand none = record {
+      pages = λ t text among o. ap (λ (m : FileMap). m (page_path folder t)) is ∙ stand t text among o;
+      index = λ function text is_root among o. absurd (none function is_root among);
+    }
+
+    pub site_stands : (old new : FileMap) → SiteEnds s f folder terms root old new (Ok tt) → IsStanding s f folder terms root new
+    site_stands old new h = by root refl h.then_root
+      where
+        by : (r : Option (List ℕ)) → root ≡ r → RootEnds s f folder terms r h.between new (Ok tt) → IsStanding s f folder terms root new
+        by None is e =
+            no_index_needed h.between new e (λ t text among o. pages_stand old h.between t text h.written among o)
+            (λ function other among. let both : ◌≡◌ {A = Option (List ℕ)} None (Some function) = sym is ∙ other in cc)
+        by (Some function) is (inl (among, (text, o, new_is))) =
+            over_index function text h.between new is o new_is (λ t x at p. pages_stand old h.between t x h.written at p)
+        by (Some function) is (inr (absent, new_is)) =
+            no_index_needed h.between new new_is (λ t x at p. pages_stand old h.between t x h.written at p)
+            (λ other also among. let both : Some function ≡ Some other = sym is ∙ also in (let same : function ≡ other = cc in absent (subst (λ (g : List ℕ). Contains terms (root_term g)) (sym same) among)))
+
+pub written_stands : (s : Site) (f : TemplateFile) (folder : List ℕ) (terms : List Term) (root : Option (List ℕ)) → WrittenStands s f folder terms root
+written_stands s f folder terms root apart old new ends = site_stands s f folder terms root apart old new ends

@@ -7,6 +7,6 @@ mod pages;
 mod paths;
 mod written;
 
-pub use laws::standing_files_stay;
+pub use laws::{standing_files_stay, written_files_stand};
 pub use pages::write_pages;
 pub use written::write_site;
