@@ -163,14 +163,7 @@ pub fn build<L: Trace, F: Files<Log = L>, O: Sink<Log = L>>(
         Ok(inputs) => inputs,
         Err(fault) => return Status::from(fault),
     };
-    match write_noted(
-        alloc,
-        log,
-        files,
-        inputs,
-        &command.folder,
-        command.durable,
-    ) {
+    match write_noted(alloc, log, files, inputs, &command.folder, command.durable) {
         Ok(line) => match put_noted(log, line.bytes(), out) {
             Ok(()) => Status::Ok,
             Err(_) => Status::WriteFault,

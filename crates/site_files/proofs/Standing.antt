@@ -139,7 +139,7 @@ at_put map path text other = by (bytes_eq path other) refl
     by false e = inr (let differ : path ≡ other → ⊥ = λ same. grind (arith, e, same, bytes_eq-Decides path other) in (differ, rw e refl))
 
 put_there : (map : FileMap) (path text : List ℕ) → put_file map path text path ≡ Some text
-put_there map path text = elim (at_put map path text path) [ | inl is ↦ is | inr other ↦ absurd (other.0 refl) ]
+put_there map path text = elim (at_put map path text path) [ inl is ↦ is | inr other ↦ absurd (other.0 refl) ]
 
 module _ (s : Site) (f : TemplateFile) (folder : List ℕ) where
   -- the page of one of these terms is at the path
@@ -177,13 +177,13 @@ module _ (s : Site) (f : TemplateFile) (folder : List ℕ) where
       elim (page_or_old ts (put_file old (page_path folder u) w.0) new (page_path folder t) w.2) [
         | inl at ↦ later u ts new (page_path folder t) at
         | inr same ↦ record {
-            t = u;
-            among = (zero, omega arith, refl);
-            is_path = ap (page_path folder) is;
-            text = w.0;
-            is_text = w.1.is_outcome;
-            there = same ∙ subst (λ (v : Term). put_file old (page_path folder u) w.0 (page_path folder v) ≡ Some w.0) is (put_there old (page_path folder u) w.0);
-          }
+          t = u;
+          among = (zero, omega arith, refl);
+          is_path = ap (page_path folder) is;
+          text = w.0;
+          is_text = w.1.is_outcome;
+          there = same ∙ subst (λ (v : Term). put_file old (page_path folder u) w.0 (page_path folder v) ≡ Some w.0) is (put_there old (page_path folder u) w.0);
+        }
       ]
 
   same_text : (t : Term) (a b : List ℕ) → IsOutcome s f t (outcome.Page a) → IsOutcome s f t (outcome.Page b) → a ≡ b

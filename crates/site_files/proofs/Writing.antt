@@ -169,7 +169,7 @@ module _ (s : Site) (f : TemplateFile) (folder : List ℕ) where
     added = b.added ∙ ap (λ r. r ++ b.part) a.added ∙ append_assoc before a.part b.part;
     its = (
       subst (λ (r : Option (List ℕ)). SiteWrites s f folder terms r (a.part ++ b.part) end) (sym is)
-        (whole_site terms root (a.part ++ b.part) end (record { pages = a.part; index = b.part; part_is = refl; written = a.its.0; then_index = b.its.0 })),
+          (whole_site terms root (a.part ++ b.part) end (record { pages = a.part; index = b.part; part_is = refl; written = a.its.0; then_index = b.its.0 })),
       sparing_then o n l a.part b.part end a.its.1 b.its.1,
     );
   }
