@@ -22,7 +22,7 @@ use edge_io::{Files, Sink};
 use files_spec::Stop;
 use happenings::Trace;
 use index_store::IndexStore;
-pub use laws::builds_end_well;
+pub use laws::{builds_end_well, standing_files_stay, written_files_stand};
 use query_blocks::root_of;
 use query_scoping::scopes;
 use run_report::{Status, put_noted};

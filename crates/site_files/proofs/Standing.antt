@@ -1,5 +1,5 @@
 -- Files that have their texts already.
-use Rattle.std.proofs.Common.{◌≡◌, ◌∙◌, ℕ, zero, suc, ◌<◌, List, [], ◌∷◌, ◌++◌, length, inl, inr, refl, sym, ap, subst, arith}
+use Rattle.std.proofs.Common.{◌≡◌, ◌∙◌, ℕ, zero, suc, List, [], ◌∷◌, ◌++◌, inl, inr, refl, sym, ap, subst, arith}
 use Rattle.std.specs.Prelude.{◌⊎◌, Contains, Bool, true, false, Option, Some, None, Result, Ok, Err, ⊤}
 use Rattle.std.specs.Prelude.{map as map_list}
 use Rattle.std.specs.List.{AllZip}
@@ -15,7 +15,7 @@ use Rattle.page_spec.specs.Page.{IsOutcome}
 use Rattle.page_spec.specs.declared.Outcome.TheVariants as outcome
 use Rattle.files_spec.specs.declared.stop.Stop.{Stop}
 use Rattle.files_spec.specs.declared.stop.Stop.TheVariants.{Faulty, Unwritten, NoMemory}
-use Rattle.files_spec.specs.Files.{root_term, IsPageText, PagesWritten, IndexWritten, IndexEnds, RootEnds, SiteEnds}
+use Rattle.files_spec.specs.Files.{root_term, PagesWritten, RootEnds, SiteEnds}
 use Rattle.page_spec.proofs.Texts.{outcome_unique}
 use Rattle.page_spec.specs.declared.Outcome.{Outcome}
 use Rattle.files_spec.specs.Paths.{page_path, index_path}
@@ -26,10 +26,10 @@ use Rattle.files_spec.specs.Standing.{WritesNone, IsStanding, StandingStays, Are
 
 module _ (map : FileMap) where
   -- a put of what is there
-  Right : Happening → Type 0
+  abbrev pub Right : Happening → Type 0
   Right h = (path text : List ℕ) → IsPut path text h → map path ≡ Some text
 
-  AllRight : List Happening → Type 0
+  abbrev pub AllRight : List Happening → Type 0
   AllRight [] = ⊤
   AllRight (h ∷ part) = Right h × AllRight part
 
@@ -37,7 +37,7 @@ module _ (map : FileMap) where
   both [] b x y = y
   both (h ∷ a) b x y = (x.0, both a b x.1 y)
 
-  IsSame : FileMap → Type 0
+  abbrev pub IsSame : FileMap → Type 0
   IsSame now = (path : List ℕ) → now path ≡ map path
 
   same_put : (now : FileMap) (path text : List ℕ) → IsSame now → map path ≡ Some text → IsSame (put_file now path text)

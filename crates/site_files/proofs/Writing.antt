@@ -17,9 +17,9 @@ use Rattle.files_spec.specs.declared.stop.Stop.{Stop}
 use Rattle.files_spec.specs.declared.stop.Stop.TheVariants.{Faulty, Unwritten, NoMemory}
 use Rattle.files_spec.specs.Paths.{file_name, page_path, index_path}
 use Rattle.files_spec.specs.Files.{root_term}
-use Rattle.files_spec.specs.Writes.{IsPut, IsPageWritten, failed_write, PagesWrite, IndexWrites, PagesThenIndex, SiteWrites, Adds}
+use Rattle.files_spec.specs.Writes.{IsPageWritten, failed_write, PagesWrite, IndexWrites, PagesThenIndex, SiteWrites, Adds}
 use Rattle.std.specs.Option.{ForSome}
-use Rattle.site_files.specs.Traced.{IsSparing, AreSparing, PutAdds, PageAdds, IndexAdds}
+use Rattle.site_files.specs.Traced.{AreSparing, PutAdds, PageAdds, IndexAdds}
 use Rattle.site_files.proofs.Sparing.{sparing_then, sparing_none, sparing_one, sparing_stop, sparing_failed}
 
 -- a file that stored the text, as its call says
@@ -122,7 +122,7 @@ module _ (s : Site) (f : TemplateFile) (folder : List ℕ) where
   -- the root page, where it is one of the terms
   pub index_among : (o n : Option FileMap) (terms : List Term) (root : List ℕ) (page : Term) (before now : List Happening) (end : Result ⊤ Stop) → page ≡ root_term root → Contains terms page
       → IndexAdds o n s f folder page before now end → Adds before now (λ part. IndexWrites s f folder terms (Some root) part end × AreSparing o n part end)
-  index_among o n terms root page before now (Ok u) is among (text, outcome_is, h, put, spares, added) = record {
+  index_among o n terms root page before now (Ok u) is among (text, outcome_is, (h, put, spares, added)) = record {
     part = h ∷ [];
     added = added;
     its = (inl (subst (Contains terms) is among, text, subst (λ (t : Term). IsOutcome s f t (outcome.Page text)) is outcome_is, h, put, refl), sparing_one o n h spares);

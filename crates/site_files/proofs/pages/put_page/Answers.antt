@@ -1,3 +1,4 @@
+use Rattle.std.proofs.Common.{sym}
 use Rattle.site_files.proofs.Puts.{unwritten_told}
 use Rattle.site_files.proofs.Writing.{stored_adds}
 use Rattle.site_files.proofs.pages.put_page.Goals as goal
@@ -7,4 +8,4 @@ returns-in-Err-clause-ends g c = λ old told. unwritten_told c.args.folder.now (
 
 pub returns-in-Ok-clause-traced : goal.returns-in-Ok-clause-traced
 returns-in-Ok-clause-traced g c =
-    rw (sym c.in_ok-path.ensures.0) (stored_adds (g.F.Files.contents c.args.files.now) (g.F.Files.contents c.write.new.self) c.in_ok-path.path c.args.text.now _ _ c.in-Ok.stored c.in-Ok.ensures.traced c.in-Ok.ensures.written c.in-Ok.ensures.stored)
+    rw (sym c.in_ok-path.ensures.0, sym c.bytes.ensures) (stored_adds (g.F.Files.contents c.args.files.now) (g.F.Files.contents c.write.new.self) c.in_ok-path.path c.bytes.result.now _ _ c.in-Ok.field-0 c.in-Ok.ensures.traced c.in-Ok.ensures.written c.in-Ok.ensures.stored)
