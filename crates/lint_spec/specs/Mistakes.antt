@@ -114,7 +114,7 @@ module _ (graph : DataGraph) (q : Scope) (templates : TemplateFile) (further : L
   IsMistake (asked.Step l) =
       ((f : Name) → Contains (created q.bodies) f → NoLinkOf q f l)
       × (IsLabelOf graph l → ⊥)
-  -- a tag in other letters is text
+  -- a tag in other letters, and one that there isn't, is text
   IsMistake asked.Tag = ⊤
   -- what is shown there is no text
   IsMistake asked.Shown = ⊤

@@ -79,7 +79,7 @@ pub enum Asked {
     },
     /// Links or edges by a label, whatever they start at.
     Step(Str),
-    /// A tag that is spelled in other letters.
+    /// A tag that is spelled in other letters, or one that there isn't.
     Tag,
     /// A value that is shown where escapes don't keep it text.
     Shown,

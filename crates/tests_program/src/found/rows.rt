@@ -272,13 +272,15 @@ pub const ROWS: &[LintRow] = &[
         templates: "<TEMPLATE Home><SFMT @paper LINK=title></TEMPLATE><TEMPLATE Page><SFMT @title></TEMPLATE>",
         lines: "site.struql: 148 NoRow at 139\nsite.struql: 148 NoRow at 178\n",
     },
-    // Tags in other letters; a word that begins as a tag does is none.
+    // Tags in other letters, and such that there aren't; elements of HTML are none, nor are words in small letters.
     LintRow {
         data: "object a in Papers { title \"One\" year 1998 } object b in Papers { title \"Two\" }",
         query: "INPUT D { CREATE Home() } { WHERE Papers(x), x -> \"title\" -> t CREATE Page(x) LINK Home() \
             -> \"paper\" -> Page(x), Page(x) -> \"title\" -> t } OUTPUT S",
         templates: "<TEMPLATE Home><SFMT @paper LINK=title></TEMPLATE><TEMPLATE Page>a<sfmt \
-            @title>b</Sif><SFMTX><SELSE <sforest></TEMPLATE>",
-        lines: "site.tmpl: 149 MisspelledTag at 66\nsite.tmpl: 149 MisspelledTag at 80\n",
+            @title>b</Sif><SFMTX></SFRO><SELSE <SPAN></STRONG><S><sforest></TEMPLATE>",
+        lines: "site.tmpl: 149 MisspelledTag at 66\nsite.tmpl: 149 MisspelledTag at 80\n\
+            site.tmpl: 149 MisspelledTag at 86\nsite.tmpl: 149 MisspelledTag at 93\n\
+            site.tmpl: 149 MisspelledTag at 100\n",
     },
 ];

@@ -1,5 +1,5 @@
 use Rattle.std.proofs.Common.{◌≡◌, List, ℕ, subst, sym, ap, ◌∙◌, inl, inr, arith}
-use Rattle.std.specs.Prelude.{Contains, length, IsTrue, pos}
+use Rattle.std.specs.Prelude.{Contains, length, pos}
 use Rattle.std.specs.Ordering.{int_cmp}
 use Rattle.sd_value.specs.declared.Value.{Value}
 use Rattle.sd_value.specs.Order.{value_cmp}

@@ -1,5 +1,5 @@
-use Rattle.std.proofs.Common.{◌≡◌, ◌∷◌, List, ◌∙◌, ◌-◌, length, take, drop, sym, ap, subst, inl, inr, arith}
-use Rattle.std.specs.Prelude.{Contains, reverse, if◌then◌else◌}
+use Rattle.std.proofs.Common.{◌∷◌, List, ◌∙◌, ◌-◌, length, take, drop, sym, ap, subst, inl, inr, arith}
+use Rattle.std.specs.Prelude.{Contains}
 use Rattle.sd_value.specs.declared.Value.{Value}
 use Rattle.sd_value.specs.Ascending.{ListsExactly}
 use Rattle.page_spec.specs.declared.Keyed.{Keyed}

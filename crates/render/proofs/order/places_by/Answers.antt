@@ -1,10 +1,10 @@
 use Rattle.std.proofs.Common.{List, ◌∷◌, subst, sym, ap, ◌∙◌, refl}
-use Rattle.std.specs.Prelude.{true, false}
+use Rattle.std.specs.Prelude.{true}
 use Rattle.std.specs.Option.{option_map}
 use Rattle.sd_value.specs.declared.Value.{Value}
 use Rattle.page_spec.specs.declared.Place.{Place}
 use Rattle.key_spec.specs.Keys.{folded_text, folded_cmp}
-use Rattle.page_spec.specs.Site.{IsLeast, places}
+use Rattle.page_spec.specs.Site.{IsLeast}
 use Rattle.render.specs.Rows.{IsLeastKey}
 use Rattle.render.proofs.Room.{ok_then}
 use Rattle.render.proofs.Keys.{value_of, least_reached, least_is_key, key_from_list}

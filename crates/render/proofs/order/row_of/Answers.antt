@@ -1,7 +1,6 @@
-use Rattle.std.proofs.Common.{◌≡◌, ◌+◌, ◌∷◌, Option, Some, List, ◌∙◌, sym, subst, arith, add-one}
+use Rattle.std.proofs.Common.{◌≡◌, ◌+◌, ◌∷◌, Option, Some, ◌∙◌, subst, arith, add-one}
 use Rattle.sd_value.specs.declared.Value.{Value}
 use Rattle.sd_value.specs.Members.{Contains-here, Contains-there}
-use Rattle.page_spec.specs.declared.Place.{Place}
 use Rattle.key_spec.specs.Keys.{folded_text, folded_cmp}
 use Rattle.page_spec.specs.Site.{IsLeast, places}
 use Rattle.render.specs.Asks.{KeyAsks, KeysAsks}

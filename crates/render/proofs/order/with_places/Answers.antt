@@ -1,7 +1,6 @@
-use Rattle.std.proofs.Common.{◌≡◌, ◌∷◌, ◌++◌, [], List, ◌∙◌, refl, sym, subst, arith}
+use Rattle.std.proofs.Common.{◌∷◌, ◌++◌, [], ◌∙◌, refl, sym, subst, arith}
 use Rattle.std.proofs.lemmas.List.{take_all}
-use Rattle.page_spec.specs.declared.Keyed.{Keyed}
-use Rattle.page_spec.specs.Site.{HasPlaces, row_cmp}
+use Rattle.page_spec.specs.Site.{row_cmp}
 use Rattle.render.specs.Rows.{HasRow, HasFirstOf}
 use Rattle.sd_value.specs.Gathered.{Gathered}
 use Rattle.sd_value.proofs.Gathering.{gathered_none, gathered_all}

@@ -1,5 +1,4 @@
-use Rattle.std.proofs.Common.{List, subst, sym, ◌++◌, ◌∷◌, []}
-use Rattle.page_spec.specs.declared.Keyed.{Keyed}
+use Rattle.std.proofs.Common.{subst, sym, ◌++◌, ◌∷◌, []}
 use Rattle.render.specs.Rows.{HasFirstOf}
 use Rattle.render.proofs.Firsts.{firsts_more, firsts_kept}
 use Rattle.render.proofs.rows.add_row.Goals as goal

@@ -1,7 +1,6 @@
-use Rattle.std.proofs.Common.{◌≡◌, List, ◌∙◌, ap}
+use Rattle.std.proofs.Common.{◌∙◌, ap}
 use Rattle.std.specs.Prelude.{Some}
 use Rattle.sd_value.specs.AscendingLaws.{one_list}
-use Rattle.page_spec.specs.declared.Keyed.{Keyed}
 use Rattle.page_spec.specs.KeyLaws.{row_cmp_total}
 use Rattle.render.specs.Rows.{first_rows}
 use Rattle.render.proofs.rows.keep_first.Goals as goal
