@@ -68,6 +68,7 @@ explain_refusal() {
   elif [ "$number" = 44 ]; then
     explain_json "$file" fault "$told"
   elif [[ $place =~ ^[0-9]+$ ]]; then
+    [ "$number" != 81 ] || told=$(expected "$file" "$place" "$told")
     over place "$file" at="$place" told="$told"
     [ "$number" != 21 ] || explain_ending "$file"
   elif [[ $place =~ ^(row|column)\ ([0-9]+)$ ]]; then
@@ -79,6 +80,13 @@ explain_refusal() {
   else
     explain_json "$file" "${place#\#}" "$told"
   fi
+}
+
+# The sentence of 81 with what can stand there, in place of what may be between templates.
+expected() {
+  local can
+  can=$(over templates "$1" at="$2")
+  printf '%s\n' "${can:+${3%%; *}: here can stand $can.}" "$3" | sed -n '/./{p;q;}'
 }
 
 # That a file of data was read as a data text, where its ending is that of no format and of no other input.

@@ -29,7 +29,7 @@ function can(stage) {
   if (stage == "expression") return quoted("@ #") "|a variable of an SFOR around it"
   if (stage == "joined") return "|a label with no blank before it"
   if (stage == "label") return "|a label"
-  if (stage == "dots") return quoted(".") can(further)
+  if (stage == "dots") return (substr(text, p - 1, 1) ~ /[ \t\r\n]/ ? "" : quoted(".")) can(further)
   if (stage == "settings") return settings()
   if (stage == "ways") return quoted("FOLD") can("turn")
   if (stage == "turn") return (ordered ? "" : quoted("DESCEND")) settings()
@@ -47,6 +47,7 @@ function can(stage) {
   if (stage == "name") return "|a name"
   if (stage == "named") return (tag == "TEMPLATE" && word == "COLLECTION" ? "|a label" : "") (tag == "FRAGMENT" ? "" : quoted("IN")) quoted(">")
   if (stage == "led") return quoted("IN >")
+  if (stage == "in or named") return quoted("= IN >")
   return quoted(">")
 }
 
@@ -114,7 +115,7 @@ function setting(name) {
   else { mode = name; stage = "settings" }
 }
 
-# The stage behind a token.
+# The stage after a token.
 function step(name) {
   if (stage == "dots" && kind != ".") stage = further
   if (stage == "dots") { stage = "joined"; return }
@@ -138,7 +139,9 @@ function step(name) {
   else if (stage == "variable") stage = "in"
   else if (stage == "in") stage = "expression"
   else if (stage == "name") { word = name; stage = tag == "SINCLUDE" || led ? "end" : "named" }
-  else if ((stage == "named" || stage == "led") && name == "IN") { stage = "equals"; after = "name"; led = 1 }
+  else if (stage == "in or named" && kind == "=") { stage = "name"; led = 1 }
+  else if (stage == "named" && name == "IN" && word == "COLLECTION" && tag == "TEMPLATE") stage = "in or named"
+  else if ((stage == "named" || stage == "led" || stage == "in or named") && name == "IN") { stage = "equals"; after = "name"; led = 1 }
   else if (stage == "named") stage = "led"
   else stage = "end"
 }

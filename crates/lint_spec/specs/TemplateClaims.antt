@@ -66,14 +66,14 @@ is_unknown_name [] = false
 is_unknown_name (b ∷ bytes) = b == 83 && (starts_capital bytes && not (is_element (b ∷ bytes)))
 
 -- the bytes without a `/` in front
-abbrev pub behind_slash : List ℕ → List ℕ
-behind_slash [] = []
-behind_slash (b ∷ bytes) = if b == 47 then bytes else b ∷ bytes
+abbrev pub without_slash : List ℕ → List ℕ
+without_slash [] = []
+without_slash (b ∷ bytes) = if b == 47 then bytes else b ∷ bytes
 
 -- the bytes begin with a tag that looks like one of templates
 abbrev pub is_unknown_tag : List ℕ → Bool
 is_unknown_tag [] = false
-is_unknown_tag (b ∷ bytes) = b == 60 && is_unknown_name (behind_slash bytes)
+is_unknown_tag (b ∷ bytes) = b == 60 && is_unknown_name (without_slash bytes)
 
 -- The bytes, in which no tag of templates begins, begin with one in other letters, namely with
 -- capitals for small ones, or with one that there isn't.

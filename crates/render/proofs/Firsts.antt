@@ -37,9 +37,9 @@ inserted_exact rows seen x l = record {
 
 -- ---- the first of them are those of the first ones
 
-take_behind : (m : ℕ) (x : Keyed) (xs : List Keyed) → take m (x ∷ take m xs) ≡ take m (x ∷ xs)
-take_behind zero x xs = refl
-take_behind (suc m) x xs = ap (λ (l : List Keyed). x ∷ l) (take-take m (suc m) xs (omega arith))
+take_after : (m : ℕ) (x : Keyed) (xs : List Keyed) → take m (x ∷ take m xs) ≡ take m (x ∷ xs)
+take_after zero x xs = refl
+take_after (suc m) x xs = ap (λ (l : List Keyed). x ∷ l) (take-take m (suc m) xs (omega arith))
 
 -- whether a row is put into all or into the first, the first are the same
 firsts_alone : (n : ℕ) (rows : List Keyed) (k : Keyed) → take n (insert_key row_cmp (take n rows) k) ≡ take n (insert_key row_cmp rows k)
@@ -48,7 +48,7 @@ firsts_alone (suc n) [] k = refl
 firsts_alone (suc n) (x ∷ xs) k = by (firsts_alone n xs k) (row_cmp k x)
   where
     by : take n (insert_key row_cmp (take n xs) k) ≡ take n (insert_key row_cmp xs k) → (r : Ordering) → take (suc n) (match_ordering r (k ∷ x ∷ take n xs) (x ∷ take n xs) (x ∷ insert_key row_cmp (take n xs) k)) ≡ take (suc n) (match_ordering r (k ∷ x ∷ xs) (x ∷ xs) (x ∷ insert_key row_cmp xs k))
-    by rest Less = ap (λ (l : List Keyed). k ∷ l) (take_behind n x xs)
+    by rest Less = ap (λ (l : List Keyed). k ∷ l) (take_after n x xs)
     by rest Equal = ap (λ (l : List Keyed). x ∷ l) (take-take n n xs (omega arith))
     by rest Greater = ap (λ (l : List Keyed). x ∷ l) rest
 

@@ -5,7 +5,7 @@ ghost use Rattle.std.specs.Char.{to_ascii_uppercase};
 ghost use Rattle.lint_spec.specs.TemplateClaims.{is_element_to_small, is_element_to_strong};
 ghost use Rattle.lint_spec.specs.TemplateClaims.{is_element_to_svg, is_element};
 ghost use Rattle.lint_spec.specs.TemplateClaims.{starts_capital, is_unknown_name};
-ghost use Rattle.lint_spec.specs.TemplateClaims.{behind_slash, is_unknown_tag, is_misspelled};
+ghost use Rattle.lint_spec.specs.TemplateClaims.{without_slash, is_unknown_tag, is_misspelled};
 ghost use Rattle.lint_spec.specs.TemplateClaims.{misspelled, tag_claims};
 
 use crate::words::push;
@@ -70,8 +70,8 @@ fn is_unknown_name(bytes: &[u8]) -> bool
     }
 }
 
-fn behind_slash(bytes: &[u8]) -> &[u8]
-    ensures { result.now ≡ behind_slash bytes.now }
+fn without_slash(bytes: &[u8]) -> &[u8]
+    ensures { result.now ≡ without_slash bytes.now }
 {
     match bytes {
         [] => bytes,
@@ -84,7 +84,7 @@ fn is_unknown_tag(bytes: &[u8]) -> bool
 {
     match bytes {
         [] => false,
-        [b, later @ ..] => *b == b'<' && is_unknown_name(behind_slash(later)),
+        [b, later @ ..] => *b == b'<' && is_unknown_name(without_slash(later)),
     }
 }
 
@@ -123,11 +123,11 @@ fn push_from(found: &mut Vec<Claim>, at: u64, text: &[u8], capitals: &[u8]) -> R
         push_tag(found, place, rest, high)?;
         place += 1;
         rest = later;
-        high = behind_first(high);
+        high = after_first(high);
     }
 }
 
-fn behind_first(bytes: &[u8]) -> &[u8]
+fn after_first(bytes: &[u8]) -> &[u8]
     ensures { result.now ≡ drop 1 bytes.now }
 {
     match bytes {

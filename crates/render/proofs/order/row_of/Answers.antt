@@ -5,7 +5,7 @@ use Rattle.key_spec.specs.Keys.{folded_text, folded_cmp}
 use Rattle.page_spec.specs.Site.{IsLeast, places}
 use Rattle.render.specs.Asks.{KeyAsks, KeysAsks}
 use Rattle.render.proofs.Asked.{keeps_as, keeps_then, item_in}
-use Rattle.render.proofs.Keys.{places_more, places_behind}
+use Rattle.render.proofs.Keys.{places_more, further_places}
 use Rattle.render.proofs.order.row_of.Goals as goal
 
 pub returns-in_err-place-clause-kept : goal.returns-in_err-place-clause-kept
@@ -55,7 +55,7 @@ loop-further-preserved g c =
     record {
       own = c.places_by-in-loop-further.ensures.own;
       fixed = c.places_by-in-loop-further.ensures.fixed ∙ c.loop-further.invariant.fixed;
-      places = places_more s keys (i + 1) v further _ _ one.0 (omega arith) (rw add-one c.further-item.is) c.loop-further.invariant.places one.1 (places_behind _ c.loop-further.list.items c.push.new.self.items c.append.new.self.items tie (places further one.0) next c.in_ok-push.ensures.items c.in_ok-append.ensures.items one.2);
+      places = places_more s keys (i + 1) v further _ _ one.0 (omega arith) (rw add-one c.further-item.is) c.loop-further.invariant.places one.1 (further_places _ c.loop-further.list.items c.push.new.self.items c.append.new.self.items tie (places further one.0) next c.in_ok-push.ensures.items c.in_ok-append.ensures.items one.2);
       kept = keeps_then c.loop-further.invariant.kept
           (λ q h. (further, Contains-there c.args.key.now c.args.more.now further (item_in c.args.more.now i further (omega arith) c.further-item.is), subst (λ x. KeyAsks (g.V.SiteView.site x) (Some further.word) v q) c.loop-further.invariant.fixed h))
           c.places_by-in-loop-further.ensures.kept;
