@@ -11,6 +11,8 @@ mod connections;
 #[cfg(test)]
 mod devices;
 #[cfg(test)]
+mod escapes;
+#[cfg(test)]
 mod found;
 #[cfg(test)]
 mod large;
