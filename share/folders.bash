@@ -22,7 +22,7 @@ take_folders() {
     fi
     case $open$word in
       1--) open= ;;
-      1--lenient | 1--whole | 1--here | 1--*=*) ;;
+      1--lenient | 1--durable | 1--whole | 1--here | 1--*=*) ;;
       1--*)
         taken+=("$word")
         [ $# -gt 0 ] || return 0

@@ -11,7 +11,8 @@ use Rattle.page_spec.specs.Page.{IsPresent}
 use Rattle.site_spec.specs.Root.{root_function}
 use Rattle.files_spec.specs.declared.stop.Stop.{Stop}
 use Rattle.files_spec.specs.declared.stop.Stop.TheVariants as stop
-use Rattle.files_spec.specs.Writes.{SiteWrites}
+use Rattle.files_spec.specs.Writes.{SiteWrites, SpareEqual}
+use Rattle.std.specs.Option.{ForSome}
 use Rattle.run_report.specs.declared.status.Status.{Status}
 use Rattle.run_report.specs.declared.status.Status.TheVariants as status
 use Rattle.command_spec.specs.Inputs.{data_paths, input_paths}
@@ -22,20 +23,23 @@ use Rattle.site_inputs.specs.Sites.{Inputs, InputsEnd, site_at}
 use Rattle.site_inputs.specs.Statuses.{status_of}
 use Rattle.command_build.specs.Ends.{build_text, written_end, stop_status}
 
--- the site's pages, ascending, were written so, and their number is what is printed
-pub record SiteWritten (s : Inputs) (folder : List ℕ) (end : Result (List ℕ) Stop)
-    (part : List Happening) : Type 0 where
+-- The site's pages, ascending, were written so, and their number is what is printed. A file that had its bytes already,
+-- where what was in the files is told, was kept.
+pub record SiteWritten (s : Inputs) (folder : List ℕ) (contents : Option FileMap)
+    (end : Result (List ℕ) Stop) (part : List Happening) : Type 0 where
   pub pages : List Term
   pub are_pages : ListsExactly term_cmp (IsPresent (site_at s) s.templates) pages
   pub writes : SiteWrites (site_at s) s.templates folder pages (root_function s.query) part
       (written_end end)
+  pub spare : ForSome contents (λ map. SpareEqual map part)
   pub told : IfOk end (λ text. text ≡ build_text (length pages))
 
 -- what was written of the site of these inputs; out of memory before the first file, nothing
 abbrev pub WritesBuilt
-    : Inputs → (folder : List ℕ) → Result (List ℕ) Stop → List Happening → Type 0
-WritesBuilt s folder end part =
-    SiteWritten s folder end part ⊎ ((end ≡ Err stop.NoMemory) × (part ≡ []))
+    : Inputs → (folder : List ℕ) → Option FileMap → Result (List ℕ) Stop → List Happening
+    → Type 0
+WritesBuilt s folder contents end part =
+    SiteWritten s folder contents end part ⊎ ((end ≡ Err stop.NoMemory) × (part ≡ []))
 
 -- what was put where writing the site ended so: the line where all was written, and else nothing
 abbrev pub LinePut : Stream → Result (List ℕ) Stop → List Happening → Status → Type 0
@@ -46,19 +50,20 @@ LinePut stream (Ok line) part reached =
 LinePut stream (Err reason) part reached = (reached ≡ stop_status reason) × (part ≡ [])
 
 -- the site was written, and then its line was put
-pub record WritesThenPuts (s : Inputs) (folder : List ℕ) (stream : Stream)
-    (part : List Happening) (reached : Status) : Type 0 where
+pub record WritesThenPuts (s : Inputs) (folder : List ℕ) (contents : Option FileMap)
+    (stream : Stream) (part : List Happening) (reached : Status) : Type 0 where
   pub end : Result (List ℕ) Stop
   pub writes : List Happening
   pub last : List Happening
   pub part_is : part ≡ writes ++ last
-  pub built : WritesBuilt s folder end writes
+  pub built : WritesBuilt s folder contents end writes
   pub put : LinePut stream end last reached
 
 module _ (command : BuildCommand) (stream : Stream) (contents : Option FileMap) where
   -- what was done with the inputs that were read; where one is refused or unread, nothing
   abbrev pub DoesWith : Result Inputs Fault → List Happening → Status → Type 0
-  DoesWith (Ok s) part reached = WritesThenPuts s command.folder stream part reached
+  DoesWith (Ok s) part reached =
+      WritesThenPuts s command.folder contents stream part reached
   DoesWith (Err reason) part reached = (reached ≡ status_of reason) × (part ≡ [])
 
   -- What happened in a build at this status, whose output is this one and whose files report this at first: its inputs were

@@ -22,7 +22,7 @@ use edge_io::{Files, Sink};
 use files_spec::Stop;
 use happenings::Trace;
 use index_store::IndexStore;
-pub use laws::builds_end_well;
+pub use laws::{builds_end_well, standing_files_stay, written_files_stand};
 use query_blocks::root_of;
 use query_scoping::scopes;
 use run_report::{Status, put_noted};
@@ -57,7 +57,7 @@ fn write_built<F: Files>(
     ensures cause { WritesHaveCause (IsSiteFile (inputs_of inputs) folder.now)
         (F.failed_writes files.old) (F.failed_writes files.new) result }
     ensures traced { (part : List Happening) × (F.trace files.new ≡ F.trace files.old ++ part)
-        × WritesBuilt (inputs_of inputs) folder.now result part }
+        × WritesBuilt (inputs_of inputs) folder.now (F.contents files.old) result part }
 {
     let scopes = scopes(alloc, &inputs.query)?;
     let store = IndexStore::of(alloc, inputs.graph)?;
@@ -73,6 +73,18 @@ fn write_built<F: Files>(
     }
 }
 
+// Has the files wait for the disk, if they are to.
+fn choose_durable<F: Files>(files: &mut F, durable: bool)
+    ensures traced { F.trace files.new ≡ F.trace files.old }
+    ensures same { F.contents files.new ≡ F.contents files.old }
+    ensures reads { F.failed_reads files.new ≡ F.failed_reads files.old }
+    ensures writes { F.failed_writes files.new ≡ F.failed_writes files.old }
+{
+    if durable {
+        files.be_durable();
+    }
+}
+
 // Writes the site of the inputs, while the log is lent to the files.
 fn write_noted<L: Trace, F: Files<Log = L>>(
     alloc: Global,
@@ -80,6 +92,7 @@ fn write_noted<L: Trace, F: Files<Log = L>>(
     files: &mut F,
     inputs: SiteInputs,
     folder: &Str,
+    durable: bool,
 ) -> Result<Str, Stop>
     ensures ends { ForSome (F.contents files.old) (λ old. IsSomeAnd (F.contents files.new) (λ new.
         BuiltEnds (inputs_of inputs) folder.now old new result)) }
@@ -87,9 +100,10 @@ fn write_noted<L: Trace, F: Files<Log = L>>(
     ensures cause { WritesHaveCause (IsSiteFile (inputs_of inputs) folder.now)
         (F.failed_writes files.old) (F.failed_writes files.new) result }
     ensures course { (part : List Happening) × (L.events log.new ≡ L.events log.old ++ part)
-        × WritesBuilt (inputs_of inputs) folder.now result part }
+        × WritesBuilt (inputs_of inputs) folder.now (F.contents files.old) result part }
     ensures lent { F.trace files.new ≡ F.trace files.old }
 {
+    choose_durable(files, durable);
     files.lend(log);
     let result = write_built(alloc, files, inputs, folder);
     files.lend(log);
@@ -149,7 +163,7 @@ pub fn build<L: Trace, F: Files<Log = L>, O: Sink<Log = L>>(
         Ok(inputs) => inputs,
         Err(fault) => return Status::from(fault),
     };
-    match write_noted(alloc, log, files, inputs, &command.folder) {
+    match write_noted(alloc, log, files, inputs, &command.folder, command.durable) {
         Ok(line) => match put_noted(log, line.bytes(), out) {
             Ok(()) => Status::Ok,
             Err(_) => Status::WriteFault,

@@ -48,17 +48,18 @@ page_command lenient over (query ∷ templates ∷ address ∷ source ∷ source
     })))
 page_command lenient over words = None
 
--- the words of `build`
-abbrev pub build_command : Bool → Option (List ℕ) → List (List ℕ) → Option Command
-build_command lenient over (query ∷ templates ∷ folder ∷ source ∷ sources) =
+-- the words of `build`, whose flag has it wait for the disk
+abbrev pub build_command : Flags → Option (List ℕ) → List (List ℕ) → Option Command
+build_command flags over (query ∷ templates ∷ folder ∷ source ∷ sources) =
     Some (Build (record {
       query = query;
       templates = templates;
       folder = folder;
-      sources = data_files lenient (source ∷ sources);
+      sources = data_files flags.lenient (source ∷ sources);
       over = over;
+      durable = flags.own;
     }))
-build_command lenient over words = None
+build_command flags over words = None
 
 -- the words of `data`
 abbrev pub data_command : Bool → Option (List ℕ) → List (List ℕ) → Option Command
@@ -263,7 +264,7 @@ replay_with_words flags given words = do
 -- the command of this name with these flags, options and words
 abbrev pub command_of : CommandName → Flags → Given → List (List ℕ) → Option Command
 command_of names.Page flags given words = page_command flags.lenient (first_query given) words
-command_of names.Build flags given words = build_command flags.lenient (first_query given) words
+command_of names.Build flags given words = build_command flags (first_query given) words
 command_of names.Data flags given words = data_command flags.lenient (first_query given) words
 command_of names.Explain flags given words = explain_command flags.lenient words
 command_of names.Schema flags given words = schema_command flags.own words

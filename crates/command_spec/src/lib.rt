@@ -84,7 +84,8 @@ pub struct PageCommand {
     pub over: Option<Str>,
 }
 
-/// `build [--lenient] [--over FILE] QUERY TEMPLATES DIR DATA..`: the whole site is written to files under a folder.
+/// `build [--durable] [--lenient] [--over FILE] QUERY TEMPLATES DIR DATA..`: the whole site is written to files under a
+/// folder.
 #[derive(Debug, Drop)]
 pub struct BuildCommand {
     pub query: Str,
@@ -93,6 +94,8 @@ pub struct BuildCommand {
     pub sources: DataFiles,
     /// The file of the first query, as for `page`.
     pub over: Option<Str>,
+    /// Whether each file is to be on the disk before the next one is written.
+    pub durable: bool,
 }
 
 /// `data [--lenient] [--over FILE] DATA..`: the data are printed, the union of the data files or a first query's site over it.

@@ -61,12 +61,12 @@ fn page_command(
 
 fn build_command(
     alloc: Global,
-    lenient: bool,
+    flags: Flags,
     over: Option<Str>,
     words: &[&str],
 ) -> Result<Option<Command>, NoMemory>
     ensures exact { IfOk result (λ given. given
-        ≡ specs.build_command lenient over (texts words.now)) }
+        ≡ specs.build_command flags over (texts words.now)) }
     ensures ranges { IfOk result (λ given. IfSome given IsInRange) }
 {
     let [query, templates, folder, sources @ ..] = words else {
@@ -79,8 +79,9 @@ fn build_command(
         query: Str::new(alloc, query.as_bytes())?,
         templates: Str::new(alloc, templates.as_bytes())?,
         folder: Str::new(alloc, folder.as_bytes())?,
-        sources: DataFiles::of(alloc, lenient, sources)?,
+        sources: DataFiles::of(alloc, flags.lenient, sources)?,
         over,
+        durable: flags.own,
     })))
 }
 
@@ -511,7 +512,7 @@ fn command_of(
     let lenient = flags.lenient;
     match name {
         CommandName::Page => page_command(alloc, lenient, first_query(alloc, matches)?, words),
-        CommandName::Build => build_command(alloc, lenient, first_query(alloc, matches)?, words),
+        CommandName::Build => build_command(alloc, flags, first_query(alloc, matches)?, words),
         CommandName::Data => data_command(alloc, lenient, first_query(alloc, matches)?, words),
         CommandName::Explain => explain_command(alloc, lenient, words),
         CommandName::Schema => schema_command(alloc, flags.own, words),
@@ -674,9 +675,9 @@ fn texts_of<'a>(alloc: Global, words: &'a [Str]) -> Result<Option<Vec<&'a str>>,
 /// first `--` is dropped, and the words behind it are no options. Each option is one of the command's, occurs at most
 /// once, and has a number of 1 to 10 digits within its range, but for `--over`, `--watch` and `--log`, whose values are paths,
 /// and `--host`, whose value is names between commas, none of them empty;
-/// `--every` doesn't stand without `--watch`. `--lenient` of every command that reads data, `--dot` of `schema`, `--whole` of
-/// `serve`, and `--here` of `check`, which `check` wants exactly where it has data, have no value. The other words are as
-/// many as the command wants. Every word is a text, and none is empty.
+/// `--every` doesn't stand without `--watch`. `--lenient` of every command that reads data, `--durable` of `build`, `--dot`
+/// of `schema`, `--whole` of `serve`, and `--here` of `check`, which `check` wants exactly where it has data, have no
+/// value. The other words are as many as the command wants. Every word is a text, and none is empty.
 pub fn read_command(alloc: Global, words: &[Str]) -> Result<Option<Command>, NoMemory>
     ensures exact { IfOk result (λ given. given ≡ specs.command words.now) }
     ensures ranges { IfOk result (λ given. IfSome given IsInRange) }

@@ -8,8 +8,8 @@ use mathlib.Core.Bool.{cond}
 use Rattle.edge_io.specs.Memory.{times}
 use Rattle.edge_io.specs.Files.{HasReadCause}
 use Rattle.edge_io.specs.Counts.{NoneFell, Rose}
-use Rattle.edge_io.specs.declared.files.ReadEnd.{ReadEnd}
-use Rattle.edge_io.specs.declared.files.ReadEnd.TheVariants.{Failed, NoMemory}
+use Rattle.edge_io.specs.declared.answers.ReadEnd.{ReadEnd}
+use Rattle.edge_io.specs.declared.answers.ReadEnd.TheVariants.{Failed, NoMemory}
 
 pub times-append : (paths : List (List ℕ)) (p q : List ℕ) → times (paths ++ p ∷ []) q ≡ times paths q + times (p ∷ []) q
 times-append paths p q = sum_by-append (λ r. cond (bytes_eq r q) 1 0) paths (p ∷ [])

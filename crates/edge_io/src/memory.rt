@@ -1,16 +1,18 @@
 // Files and a sink in memory, which fail by a list.
 ghost use Rattle.std.specs.Prelude.{◌≡◌, ◌⊎◌, ◌↔◌, Contains, ℕ, List, ◌+◌, ◌<◌, ◌≤◌, ◌^◌, ◌++◌, ◌∷◌, [], length};
 ghost use Rattle.std.specs.Prelude.{take, Some, MatchOption, None, OnOk, OnErr, IfOk, IfSome, IsErr, IsErrOf};
-ghost use Rattle.std.specs.Prelude.{vec_len, min, option_copied, true, false, MatchResult};
-ghost use Rattle.happenings.specs.Happening.{Read, ReadFailed, Wrote, WriteFailed, Put, PutFailed};
+ghost use Rattle.std.specs.Prelude.{◌≢◌, vec_len, min, option_copied, true, false, MatchResult};
+ghost use Rattle.happenings.specs.Happening.{Read, ReadFailed, WriteFailed, RemoveFailed, Put, PutFailed};
 ghost use Rattle.std.specs.Bool.{OnTrue};
 ghost use Rattle.std.specs.Option.{ForSome};
-ghost use Rattle.edge_io.specs.Files.{IsStartOf, HasReadCause, HasWriteCause, PutsFile, LeavesOthers};
+ghost use Rattle.edge_io.specs.Files.{IsStartOf, HasReadCause, HasWriteCause, PutsFile, LeavesOthers, ChangesOnly};
+ghost use Rattle.edge_io.specs.Files.{stored_event, removal_events, IsStoredOver, IsRemovalOver};
 ghost use Rattle.edge_io.specs.Counts.{HasCause, NoneFell, Rose};
 ghost use Rattle.edge_io.specs.Sink.{Gains, GainsPart};
 ghost use Rattle.edge_io.specs.Memory.{bytes_at, times, lost_of, next_call, IsNamed, next_put, IsSinkNamed};
 
-use crate::files::{Files, ReadEnd};
+use crate::answers::{ReadEnd, Removal, Stored};
+use crate::files::Files;
 use crate::sink::{Failed, Sink};
 use happenings::{Log, Stream};
 use sd_value::{NoMemory, Str};
@@ -50,6 +52,25 @@ fn find<'f>(files: &'f [MemFile], path: &[u8]) -> Option<&'f MemFile>
         }
     }
     None
+}
+
+// What a write of these bytes at the path finds.
+fn stored_over(files: &[MemFile], path: &[u8], bytes: &[u8]) -> Stored
+    ensures { IsStoredOver (bytes_at files.now path.now) bytes.now result }
+{
+    match find(files, path) {
+        Some(file) if file.bytes.bytes() == bytes => Stored::Kept,
+        _ => Stored::Written,
+    }
+}
+
+// Takes the files of the path away.
+fn drop_file(files: &mut Vec<MemFile>, path: &[u8])
+    ensures gone { bytes_at files.new.items path.now ≡ None }
+    ensures elsewhere { ChangesOnly (bytes_at files.old.items)
+        (bytes_at files.new.items) path.now }
+{
+    files.retain(|file| file.path.bytes() != path);
 }
 
 fn start_of(alloc: Global, bytes: &[u8], at_most: u64) -> Result<Vec<u8>, AllocError>
@@ -232,14 +253,22 @@ impl Files for MemFiles {
         }
     }
 
+    fn is_there(&self, path: &Str) -> bool {
+        find(&self.files, path.bytes()).is_some()
+    }
+
     /// Fails exactly where `failing` names the call, which then leaves the files as they are, or memory was refused.
-    fn write(&mut self, path: &Str, bytes: &[u8]) -> Result<(), Failed>
+    fn write(&mut self, path: &Str, bytes: &[u8]) -> Result<Stored, Failed>
         ensures traced { MatchResult result
-            (λ _. self.new.trace ≡ self.old.trace ++ Wrote path.now bytes.now ∷ [])
+            (λ stored. self.new.trace
+            ≡ self.old.trace ++ stored_event stored path.now bytes.now ∷ [])
             (λ _. self.new.trace ≡ self.old.trace ++ WriteFailed path.now ∷ []) }
         ensures written { OnOk result
             (PutsFile (Some (bytes_at self.old.files))
             (Some (bytes_at self.new.files)) path.now bytes.now) }
+        ensures stored { IfOk result
+            (λ stored. ForSome (Some (bytes_at self.old.files))
+            (λ map. IsStoredOver (map path.now) bytes.now stored)) }
         ensures elsewhere { LeavesOthers (Some (bytes_at self.old.files))
             (Some (bytes_at self.new.files)) path.now }
         ensures cause { HasWriteCause (lost_of self.old) (lost_of self.new) path.now result }
@@ -255,14 +284,50 @@ impl Files for MemFiles {
             self.log.write_failed(path.bytes());
             return Err(Failed);
         }
+        let stored = stored_over(&self.files, path.bytes(), bytes);
         if put_file(self.alloc, &mut self.files, path, bytes).is_err() {
             self.lost = self.lost.saturating_add(1);
             self.short = true;
             self.log.write_failed(path.bytes());
             return Err(Failed);
         }
-        self.log.wrote(path.bytes(), bytes);
-        Ok(())
+        match stored {
+            Stored::Written => self.log.wrote(path.bytes(), bytes),
+            Stored::Kept => self.log.kept(path.bytes(), bytes),
+        }
+        Ok(stored)
+    }
+
+    /// Fails exactly where `failing` names the call, which then leaves the files as they are.
+    fn remove(&mut self, _folder: &Str, path: &Str) -> Result<Removal, Failed>
+        ensures traced { MatchResult result
+            (λ removal. self.new.trace ≡ self.old.trace ++ removal_events removal path.now)
+            (λ _. self.new.trace ≡ self.old.trace ++ RemoveFailed path.now ∷ []) }
+        ensures removed { IfOk result
+            (λ removal. ForSome (Some (bytes_at self.old.files))
+            (λ map. IsRemovalOver map (Some (bytes_at self.new.files)) path.now removal)) }
+        ensures elsewhere { LeavesOthers (Some (bytes_at self.old.files))
+            (Some (bytes_at self.new.files)) path.now }
+        ensures cause { HasWriteCause (lost_of self.old) (lost_of self.new) path.now result }
+        ensures reads { times self.new.missed ≡ times self.old.missed }
+        ensures failed { OnErr result
+            (IsNamed self.old × (self.new.files ≡ self.old.files)) }
+        ensures fails { IsNamed self.old → IsErr result }
+        ensures linked { IfOk result (λ removal. removal ≢ Removal.Linked) }
+        ensures calls { self.new.calls ≡ next_call self.old }
+    {
+        self.calls = self.calls.saturating_add(1);
+        if is_named(&self.failing, self.calls) {
+            self.lost = self.lost.saturating_add(1);
+            self.log.remove_failed(path.bytes());
+            return Err(Failed);
+        }
+        if find(&self.files, path.bytes()).is_none() {
+            return Ok(Removal::Absent);
+        }
+        drop_file(&mut self.files, path.bytes());
+        self.log.removed(path.bytes());
+        Ok(Removal::Removed)
     }
 
     fn read_faults(&self, path: &Str) -> u64 {

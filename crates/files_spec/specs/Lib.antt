@@ -2,3 +2,4 @@ pub mod Paths
 pub mod Files
 pub mod Causes
 pub mod Writes
+pub mod Standing

@@ -1,7 +1,8 @@
 -- The writes of a site's files, one after another.
-use Rattle.std.specs.Prelude.{◌≡◌, ◌⊎◌, ℕ, List, [], ◌∷◌, ◌++◌, map, Contains, Option, Some, None, Result, Ok, Err, ⊤}
+use Rattle.std.specs.Prelude.{◌≡◌, ◌≢◌, ◌⊎◌, ℕ, List, [], ◌∷◌, ◌++◌, map, Contains, Option, Some, None, Result, Ok, Err, ⊤}
 use Rattle.std.specs.List.{AllZip}
-use Rattle.happenings.specs.Happening.{Happening, Wrote, WriteFailed}
+use Rattle.happenings.specs.Happening.{Happening, Wrote, Kept, WriteFailed}
+use Rattle.edge_io.specs.Files.{FileMap, put_file}
 use Rattle.sd_value.specs.declared.Term.{Term}
 use Rattle.tmpl.specs.Body.{TemplateFile}
 use Rattle.page_spec.specs.Site.{Site}
@@ -12,12 +13,33 @@ use Rattle.files_spec.specs.declared.stop.Stop.TheVariants.{Unwritten}
 use Rattle.files_spec.specs.Files.{IsPageText, root_term}
 use Rattle.files_spec.specs.Paths.{page_path, index_path}
 
+-- the file at the path was given this text, or had it already
+abbrev pub IsPut : (path text : List ℕ) → Happening → Type 0
+IsPut path text h = (h ≡ Wrote path text) ⊎ (h ≡ Kept path text)
+
+-- the files after a put
+abbrev pub after_put : FileMap → Happening → FileMap
+after_put map (Wrote path text) = put_file map path text
+after_put map (Kept path text) = put_file map path text
+after_put map other = map
+
+-- over these files it wrote other bytes than those that were there, or kept the same
+abbrev pub SparesEqual : FileMap → Happening → Type 0
+SparesEqual map (Wrote path text) = map path ≢ Some text
+SparesEqual map (Kept path text) = map path ≡ Some text
+SparesEqual map other = ⊤
+
+-- one after another, over these files at first
+abbrev pub SpareEqual : FileMap → List Happening → Type 0
+SpareEqual map [] = ⊤
+SpareEqual map (h ∷ part) = SparesEqual map h × SpareEqual (after_put map h) part
+
 module _ (site : Site) (templates : TemplateFile) (folder : List ℕ) where
-  -- the file of the term's page was given the page's text
+  -- the file of the term's page was given the page's text, or had it already
   pub record IsPageWritten (t : Term) (h : Happening) : Type 0 where
     pub text : List ℕ
     pub is_text : IsPageText site templates t text
-    pub its : h ≡ Wrote (page_path folder t) text
+    pub its : IsPut (page_path folder t) text h
 
   -- the write of the file of the term's page failed
   abbrev pub failed_write : Term → Happening
@@ -48,7 +70,7 @@ module _ (site : Site) (templates : TemplateFile) (folder : List ℕ) where
   IndexWrites terms (Some root) part (Ok u) =
       (Contains terms (root_term root) × (text : List ℕ)
       × IsOutcome site templates (root_term root) (outcome.Page text)
-      × (part ≡ Wrote (index_path folder) text ∷ []))
+      × (h : Happening) × IsPut (index_path folder) text h × (part ≡ h ∷ []))
       ⊎ ((Contains terms (root_term root) → ⊥) × (part ≡ []))
   IndexWrites terms (Some root) part (Err (Unwritten path)) =
       Contains terms (root_term root) × (path ≡ index_path folder)

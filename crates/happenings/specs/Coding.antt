@@ -5,7 +5,7 @@ use Rattle.happenings.specs.declared.event.WireEvent.TheVariants.{Opened, Bytes,
 use Rattle.happenings.specs.declared.stream.Stream.TheVariants.{Output, Errors}
 use Rattle.happenings.specs.Happening.{Happening, Read, ReadFailed, Wrote, WriteFailed, Put, PutFailed, Watched}
 use Rattle.happenings.specs.Happening.{WatchFailed, Listened, ListenFailed, Given, NextFailed, Sent, SendFailed, Closed}
-use Rattle.happenings.specs.Happening.{Finished}
+use Rattle.happenings.specs.Happening.{Finished, Kept, Removed, RemoveFailed}
 
 -- the happening of this kind, with its numbers, its path and its bytes
 abbrev pub decoded : (kind first second : ℕ) → (path bytes : List ℕ) → Happening
@@ -32,7 +32,10 @@ decoded kind first second path bytes =
     else (if kind == 19 then Sent first bytes
     else (if kind == 20 then SendFailed first bytes second
     else (if kind == 21 then Closed first
-    else Finished)))))))))))))))))))))
+    else (if kind == 22 then Finished
+    else (if kind == 23 then Kept path bytes
+    else (if kind == 24 then Removed path
+    else RemoveFailed path))))))))))))))))))))))))
 
 -- the happening of these numbers, of which the first says what it is, and these bytes
 abbrev pub happening_of : List ℕ → List ℕ → List ℕ → Happening
@@ -66,6 +69,9 @@ raw_of (Sent k bytes) = (19 ∷ k ∷ [], ([], bytes))
 raw_of (SendFailed k bytes taken) = (20 ∷ k ∷ taken ∷ [], ([], bytes))
 raw_of (Closed k) = (21 ∷ k ∷ [], ([], []))
 raw_of Finished = (22 ∷ [], ([], []))
+raw_of (Kept path bytes) = (23 ∷ [], (path, bytes))
+raw_of (Removed path) = (24 ∷ [], (path, []))
+raw_of (RemoveFailed path) = (25 ∷ [], (path, []))
 
 abbrev pub of_raw : Raw → Happening
 of_raw raw = happening_of raw.0 raw.1.0 raw.1.1
@@ -94,6 +100,9 @@ raw_again (Sent k bytes) = refl
 raw_again (SendFailed k bytes taken) = refl
 raw_again (Closed k) = refl
 raw_again Finished = refl
+raw_again (Kept path bytes) = refl
+raw_again (Removed path) = refl
+raw_again (RemoveFailed path) = refl
 
 -- no two happenings have the same numbers and bytes
 abbrev pub coded_happening : Coded Happening

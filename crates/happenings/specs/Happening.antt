@@ -8,9 +8,13 @@ pub data Happening : Type 0 where
   -- the file at the path was read and gave these bytes, or the read failed
   Read : (path bytes : List ℕ) → Happening
   ReadFailed : (path : List ℕ) → Happening
-  -- the file at the path was given these bytes, or the write failed
+  -- the file at the path was given these bytes, or had them already and stayed as it was, or the write failed
   Wrote : (path bytes : List ℕ) → Happening
+  Kept : (path bytes : List ℕ) → Happening
   WriteFailed : (path : List ℕ) → Happening
+  -- the file at the path was removed, or that failed
+  Removed : (path : List ℕ) → Happening
+  RemoveFailed : (path : List ℕ) → Happening
   -- the output took this text, or the put failed after so many of its bytes
   Put : (stream : Stream) (text : List ℕ) → Happening
   PutFailed : (stream : Stream) (text : List ℕ) (taken : ℕ) → Happening

@@ -5,6 +5,7 @@ ghost use Rattle.happenings.specs.Coding.{coded_happening, happening_of};
 ghost use Rattle.happenings.specs.Happening.{Happening, Read, ReadFailed, Wrote, WriteFailed, Put, PutFailed};
 ghost use Rattle.happenings.specs.Happening.{Watched, WatchFailed, Listened, ListenFailed, Given, NextFailed};
 ghost use Rattle.happenings.specs.Happening.{Sent, SendFailed, Closed, Finished};
+ghost use Rattle.happenings.specs.Happening.{Kept, Removed, RemoveFailed};
 
 use crate::event::WireEvent;
 use crate::stream::Stream;
@@ -65,6 +66,27 @@ impl Log {
         ensures { self.new.events ≡ self.old.events ++ WriteFailed path.now ∷ [] }
     {
         self.note(&[3], path, &[]);
+    }
+
+    /// A file had the bytes that it was to be given, and stayed as it was.
+    pub fn kept(&mut self, path: &[u8], bytes: &[u8])
+        ensures { self.new.events ≡ self.old.events ++ Kept path.now bytes.now ∷ [] }
+    {
+        self.note(&[23], path, bytes);
+    }
+
+    /// A file was removed.
+    pub fn removed(&mut self, path: &[u8])
+        ensures { self.new.events ≡ self.old.events ++ Removed path.now ∷ [] }
+    {
+        self.note(&[24], path, &[]);
+    }
+
+    /// The removal of a file failed.
+    pub fn remove_failed(&mut self, path: &[u8])
+        ensures { self.new.events ≡ self.old.events ++ RemoveFailed path.now ∷ [] }
+    {
+        self.note(&[25], path, &[]);
     }
 
     /// A text was put on an output.

@@ -18,8 +18,8 @@ use Rattle.serving_spec.specs.declared.HubEnd.TheVariants as end
 use Rattle.hub.specs.Course.{Scene, Rules, PassesAll, IsCourse, Ending}
 use Rattle.files_spec.specs.declared.stop.Stop.{Stop}
 use Rattle.files_spec.specs.declared.stop.Stop.TheVariants as stop
-use Rattle.files_spec.specs.Writes.{IsPageWritten, WritesSome, IndexWrites, PagesThenIndex, PagesWrite, SiteWrites}
-use Rattle.files_spec.specs.Paths.{page_path}
+use Rattle.files_spec.specs.Writes.{IsPut, IsPageWritten, WritesSome, IndexWrites, PagesThenIndex, PagesWrite, SiteWrites}
+use Rattle.files_spec.specs.Paths.{page_path, index_path}
 use Rattle.run_report.specs.Told.{IsOnePut, IsTold, ArePut, file_line}
 use Rattle.run_report.specs.declared.reports.Report.{Report}
 use Rattle.run_report.specs.declared.status.Status.{Status}
@@ -121,9 +121,13 @@ answer_quiet report_of out (prelude.Err stop) part s h = none_quiet part h.0
 
 -- ---- writes
 
+one_put_is_quiet : (path text : List ℕ) (h : Happening) → IsPut path text h → IsQuiet h
+one_put_is_quiet path text h (inl is) = subst IsQuiet (sym is) tt
+one_put_is_quiet path text h (inr is) = subst IsQuiet (sym is) tt
+
 module _ (site : Site) (templates : TemplateFile) (folder : List ℕ) where
   page_quiet : (t : Term) (h : Happening) → IsPageWritten site templates folder t h → IsQuiet h
-  page_quiet t h w = subst IsQuiet (sym w.its) tt
+  page_quiet t h w = one_put_is_quiet (page_path folder t) w.text h w.its
 
   pages_quiet : (terms : List Term) (part : List Happening) → AllZip (IsPageWritten site templates folder) terms part → Each IsQuiet part
   pages_quiet terms part z = zip_each (IsPageWritten site templates folder) IsQuiet page_quiet terms part z
@@ -136,7 +140,8 @@ module _ (site : Site) (templates : TemplateFile) (folder : List ℕ) where
 
   index_quiet : (terms : List Term) (root : Option (List ℕ)) (part : List Happening) (ended : Result ⊤ Stop) → IndexWrites site templates folder terms root part ended → Each IsQuiet part
   index_quiet terms None part ended h = none_quiet part h
-  index_quiet terms (Some root) part (prelude.Ok u) (inl h) = subst (Each IsQuiet) (sym h.3) (tt, tt)
+  index_quiet terms (Some root) part (prelude.Ok u) (inl (among, text, is, h, put, part_is)) =
+      subst (Each IsQuiet) (sym part_is) (one_put_is_quiet (index_path folder) text h put, tt)
   index_quiet terms (Some root) part (prelude.Ok u) (inr h) = none_quiet part h.1
   index_quiet terms (Some root) part (prelude.Err (stop.Unwritten path)) h = subst (Each IsQuiet) (sym h.2) (tt, tt)
   index_quiet terms (Some root) part (prelude.Err reason) h = none_quiet part h
@@ -309,7 +314,7 @@ build_quiet : (c : _) (out : Stream) (contents : Option FileMap) (inputs : Resul
 build_quiet c out contents (prelude.Ok given) part s h =
     each_is IsQuiet part (h.writes ++ h.last) h.part_is (both IsQuiet h.writes h.last (built h.end h.writes h.built) (put h.end h.last h.put))
   where
-    built : (end : Result (List ℕ) Stop) (part : List Happening) → build.WritesBuilt given c.folder end part → Each IsQuiet part
+    built : (end : Result (List ℕ) Stop) (part : List Happening) → build.WritesBuilt given c.folder contents end part → Each IsQuiet part
     built end part (inl w) = writes_quiet _ given.templates c.folder w.pages _ part _ w.writes
     built end part (inr w) = none_quiet part w.1
 

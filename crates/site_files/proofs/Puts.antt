@@ -1,5 +1,5 @@
 -- A page's file that could not be written.
-use Rattle.std.proofs.Common.{◌≡◌, ℕ, List, subst}
+use Rattle.std.proofs.Common.{◌≡◌, ℕ, List}
 use Rattle.std.specs.Prelude.{Option, Some, None, Err}
 use Rattle.std.specs.Option.{IsSomeAnd}
 use Rattle.sd_value.specs.declared.Term.{Term}

@@ -7,7 +7,7 @@ ghost use Rattle.files_spec.specs.Paths.{index_path as index_file};
 ghost use Rattle.files_spec.specs.Files.{root_term, IndexPut, IndexEnds};
 ghost use Rattle.files_spec.specs.Causes.{WritesHaveCause};
 ghost use Rattle.files_spec.specs.Writes.{Adds, IndexWrites};
-ghost use Rattle.site_files.specs.Traced.{IndexAdds};
+ghost use Rattle.site_files.specs.Traced.{IndexAdds, AreSparing};
 
 use crate::paths::index_path;
 use edge_io::Files;
@@ -51,7 +51,8 @@ fn put_index<F: Files, P: Pages>(
         (P.templates (P.fixed pages.old)) page.now (outcome.Page text) }
     ensures own { P.Own pages.new }
     ensures fixed { P.fixed pages.new ≡ P.fixed pages.old }
-    ensures traced { IndexAdds (P.site (P.fixed pages.old)) (P.templates (P.fixed pages.old))
+    ensures traced { IndexAdds (F.contents files.old) (F.contents files.new)
+        (P.site (P.fixed pages.old)) (P.templates (P.fixed pages.old))
         folder.now page.now (F.trace files.old) (F.trace files.new) result }
     ensures ends { ForSome (F.contents files.old) (λ old. IsSomeAnd (F.contents files.new) (λ new.
         IndexPut (P.site (P.fixed pages.old)) (P.templates (P.fixed pages.old))
@@ -65,7 +66,7 @@ fn put_index<F: Files, P: Pages>(
     };
     let path = index_path(alloc, folder)?;
     match files.write(&path, text.bytes()) {
-        Ok(()) => Ok(()),
+        Ok(_) => Ok(()),
         Err(_) => Err(Stop::Unwritten { path }),
     }
 }
@@ -88,7 +89,8 @@ pub fn write_index<F: Files, P: Pages>(
     ensures fixed { P.fixed pages.new ≡ P.fixed pages.old }
     ensures traced { Adds (F.trace files.old) (F.trace files.new) (λ part.
         IndexWrites (P.site (P.fixed pages.old)) (P.templates (P.fixed pages.old))
-        folder.now terms.now (Some root.now) part result) }
+        folder.now terms.now (Some root.now) part result
+        × AreSparing (F.contents files.old) (F.contents files.new) part result) }
     ensures ends { ForSome (F.contents files.old) (λ old. IsSomeAnd (F.contents files.new) (λ new.
         IndexEnds (P.site (P.fixed pages.old)) (P.templates (P.fixed pages.old))
         folder.now terms.now root.now old new result)) }

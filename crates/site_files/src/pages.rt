@@ -6,7 +6,7 @@ ghost use Rattle.page_spec.specs.Page.{IsPresent};
 ghost use Rattle.address.specs.Segments.{HasLongSegment};
 ghost use Rattle.files_spec.specs.Paths.{file_name, page_path as path_of};
 ghost use Rattle.site_files.specs.Puts.{PutEnds};
-ghost use Rattle.site_files.specs.Traced.{PutAdds, PageAdds};
+ghost use Rattle.site_files.specs.Traced.{PutAdds, PageAdds, AreSparing};
 ghost use Rattle.files_spec.specs.Writes.{Adds, PagesWrite};
 ghost use Rattle.files_spec.specs.Files.{IsPageText, PageEnds, PagesEnd};
 ghost use Rattle.files_spec.specs.Causes.{WritesHaveCause, IsPagePath};
@@ -38,8 +38,8 @@ fn put_page<F: Files>(
     term: &Term,
     text: &Str,
 ) -> Result<(), Stop>
-    ensures traced { PutAdds (path_of folder.now term.now) text.now
-        (F.trace files.old) (F.trace files.new) result }
+    ensures traced { PutAdds (F.contents files.old) (F.contents files.new)
+        (path_of folder.now term.now) text.now (F.trace files.old) (F.trace files.new) result }
     ensures ends { ForSome (F.contents files.old) (λ old. IsSomeAnd (F.contents files.new) (λ new.
         PutEnds folder.now term.now text.now old new result)) }
     ensures named { OnOk result (HasLongSegment (file_name term.now) → ⊥) }
@@ -49,7 +49,7 @@ fn put_page<F: Files>(
 {
     let path = page_path(alloc, folder, term)?;
     match files.write(&path, text.bytes()) {
-        Ok(()) => Ok(()),
+        Ok(_) => Ok(()),
         Err(_) => Err(Stop::Unwritten { path }),
     }
 }
@@ -69,7 +69,8 @@ fn write_page<F: Files, P: Pages>(
     ensures fixed { P.fixed pages.new ≡ P.fixed pages.old }
     ensures text { OnOk result ((text : List ℕ)
         × IsPageText (P.site (P.fixed pages.old)) (P.templates (P.fixed pages.old)) term.now text) }
-    ensures traced { PageAdds (P.site (P.fixed pages.old)) (P.templates (P.fixed pages.old))
+    ensures traced { PageAdds (F.contents files.old) (F.contents files.new)
+        (P.site (P.fixed pages.old)) (P.templates (P.fixed pages.old))
         folder.now term.now (F.trace files.old) (F.trace files.new) result }
     ensures ends { ForSome (F.contents files.old) (λ old. IsSomeAnd (F.contents files.new) (λ new.
         PageEnds (P.site (P.fixed pages.old)) (P.templates (P.fixed pages.old))
@@ -104,7 +105,8 @@ pub fn write_pages<F: Files, P: Pages>(
         × IsPageText (P.site (P.fixed pages.old)) (P.templates (P.fixed pages.old)) t text) }
     ensures traced { Adds (F.trace files.old) (F.trace files.new) (λ part.
         PagesWrite (P.site (P.fixed pages.old)) (P.templates (P.fixed pages.old))
-        folder.now terms.now part result) }
+        folder.now terms.now part result
+        × AreSparing (F.contents files.old) (F.contents files.new) part result) }
     ensures ends { ForSome (F.contents files.old) (λ old. IsSomeAnd (F.contents files.new) (λ new.
         PagesEnd (P.site (P.fixed pages.old)) (P.templates (P.fixed pages.old))
         folder.now terms.now old new result)) }

@@ -7,6 +7,7 @@ ghost use Rattle.address.specs.Targets.{root_name};
 ghost use Rattle.files_spec.specs.Files.{SiteEnds};
 ghost use Rattle.files_spec.specs.Causes.{WritesHaveCause, IsSitePath};
 ghost use Rattle.files_spec.specs.Writes.{Adds, SiteWrites};
+ghost use Rattle.site_files.specs.Traced.{AreSparing};
 
 use crate::index::write_index;
 use crate::pages::write_pages;
@@ -33,7 +34,8 @@ pub fn write_site<F: Files, P: Pages>(
     ensures fixed { P.fixed pages.new ≡ P.fixed pages.old }
     ensures traced { Adds (F.trace files.old) (F.trace files.new) (λ part.
         SiteWrites (P.site (P.fixed pages.old)) (P.templates (P.fixed pages.old))
-        folder.now terms.now (root_name root.entry) part result) }
+        folder.now terms.now (root_name root.entry) part result
+        × AreSparing (F.contents files.old) (F.contents files.new) part result) }
     ensures ends { ForSome (F.contents files.old) (λ old. IsSomeAnd (F.contents files.new) (λ new.
         SiteEnds (P.site (P.fixed pages.old)) (P.templates (P.fixed pages.old))
         folder.now terms.now (root_name root.entry) old new result)) }

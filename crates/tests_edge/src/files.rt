@@ -1,7 +1,7 @@
 // Files of the system, each read as std wrote it, and each written as std reads it.
 use crate::folder::Folder;
 use crate::full::FullDisk;
-use edge_io::{Failed, Files, ReadEnd, RealFiles};
+use edge_io::{Failed, Files, ReadEnd, RealFiles, Removal, Stored};
 use sd_value::{NoMemory, Str};
 use std::alloc::Global;
 use std::fs::Permissions;
@@ -45,6 +45,16 @@ enum Step {
     Writes(&'static str, &'static [u8]),
     // The long text is written, and std reads it.
     WritesLong(&'static str),
+    // The bytes are there already, and the file stays as it is.
+    Keeps(&'static str, &'static [u8]),
+    // The long text is there already, and the file stays as it is.
+    KeepsLong(&'static str),
+    // A removal finds so.
+    Removes(&'static str, Removal),
+    // A removal fails, and is counted.
+    RemoveFails(&'static str),
+    // Nothing is there.
+    IsMissing(&'static str),
     // A write fails, and is counted.
     WriteFails(&'static str),
     // At most so many bytes are read: the long text's first, of which there are so many.
@@ -194,6 +204,56 @@ const STORIES: &[Story] = &[
             Step::IsFile("link"),
         ],
     },
+    // Whoever goes by the time of a file sees that it is the same.
+    Story {
+        name: "a file that has the bytes stays as it is",
+        folder: "kept",
+        steps: &[
+            Step::Writes("file", b"a file"),
+            Step::Keeps("file", b"a file"),
+            Step::Writes("file", b"a fil"),
+            Step::Keeps("file", b"a fil"),
+            Step::Writes("file", b""),
+            Step::Keeps("file", b""),
+            Step::WritesLong("new/file"),
+            Step::KeepsLong("new/file"),
+            Step::Link("link", "file"),
+            Step::Writes("link", b""),
+            Step::IsFile("link"),
+        ],
+    },
+    Story {
+        name: "a file is removed with the folders that this leaves empty",
+        folder: "cleared",
+        steps: &[
+            Step::Writes("new/folders/file", b"a file"),
+            Step::Writes("new/file", b"another"),
+            Step::Removes("new/folders/file", Removal::Removed),
+            Step::IsMissing("new/folders"),
+            Step::Holds("new/file", b"another"),
+            Step::Removes("new/folders/file", Removal::Absent),
+            Step::Removes("new/file/x", Removal::Absent),
+            Step::Removes("new/file", Removal::Removed),
+            Step::IsMissing("new"),
+            Step::Names(&[]),
+            Step::Writes("folder/file", b"a file"),
+            Step::RemoveFails("folder"),
+            Step::Holds("folder/file", b"a file"),
+        ],
+    },
+    Story {
+        name: "a removal follows no link to a folder",
+        folder: "followed",
+        steps: &[
+            Step::Writes("outside/folder/file", b"outside"),
+            Step::Link("linked", "outside"),
+            Step::Removes("linked/folder/file", Removal::Linked),
+            Step::Holds("outside/folder/file", b"outside"),
+            Step::Removes("linked", Removal::Removed),
+            Step::Holds("outside/folder/file", b"outside"),
+            Step::Names(&["outside"]),
+        ],
+    },
     Story {
         name: "an old file stays where a write fails",
         folder: "stays",
@@ -226,6 +286,8 @@ fn name_of(step: &Step) -> &'static str {
         Step::Holds(name, _) | Step::IsFile(name) | Step::Writes(name, _) => *name,
         Step::SetsMode(name, _) | Step::HasMode(name, _) => *name,
         Step::WritesBesideLocked(name, _) | Step::TellsNothing(name) => *name,
+        Step::Keeps(name, _) | Step::KeepsLong(name) | Step::Removes(name, _) => *name,
+        Step::RemoveFails(name) | Step::IsMissing(name) => *name,
         Step::TellsLength(name, _) | Step::TellsOther(name, _) => *name,
         Step::WritesLong(name) | Step::WriteFails(name) | Step::ReadsLong(name, _, _) => *name,
         Step::ReadFails(name) | Step::WritesFull(name, _) | Step::WriteFullFails(name, _) => *name,
@@ -271,7 +333,40 @@ fn links(rt: &HostRuntime, folder: &Folder, path: &str, other: &str) -> bool {
 
 // The bytes are written, where so many writes have failed before. Is it so?
 fn writes<F: Files>(files: &mut F, path: &Str, bytes: &[u8], faults: u64) -> bool {
-    files.write(path, bytes) == Ok(()) && files.write_faults(path) == faults
+    files.write(path, bytes) == Ok(Stored::Written) && files.write_faults(path) == faults
+}
+
+// The bytes are there already, and the same is told of the file as before. Is it so?
+fn keeps<F: Files>(files: &mut F, path: &Str, bytes: &[u8]) -> bool {
+    let before = files.stamp(path);
+    let kept = files.write(path, bytes) == Ok(Stored::Kept);
+    kept && before.is_some() && before == files.stamp(path) && files.is_there(path)
+}
+
+// A removal from the folder finds so. Is it so?
+fn removes<F: Files>(
+    alloc: Global,
+    files: &mut F,
+    folder: &Folder,
+    path: &Str,
+    removal: Removal,
+) -> bool {
+    match folder.as_str(alloc) {
+        Ok(folder) => {
+            files.remove(&folder, path) == Ok(removal) && files.write_faults(path) == 0
+        }
+        Err(_) => false,
+    }
+}
+
+// The first removal fails, and is counted. Is it so?
+fn remove_fails<F: Files>(alloc: Global, files: &mut F, folder: &Folder, path: &Str) -> bool {
+    match folder.as_str(alloc) {
+        Ok(folder) => {
+            files.remove(&folder, path) == Err(Failed) && files.write_faults(path) == 1
+        }
+        Err(_) => false,
+    }
 }
 
 // The bytes are written while the file that another run has written in part is locked. Is it so?
@@ -350,6 +445,11 @@ fn goes(
         Step::Names(names) => matches!(&has_only(rt, at, names), Ok(true)),
         Step::Writes(_, bytes) => writes(files, path, bytes, 0) && holds(rt, at, bytes),
         Step::WritesLong(_) => writes(files, path, long, 0) && holds(rt, at, long),
+        Step::Keeps(_, bytes) => keeps(files, path, bytes) && holds(rt, at, bytes),
+        Step::KeepsLong(_) => keeps(files, path, long) && holds(rt, at, long),
+        Step::Removes(_, removal) => removes(rt.alloc(), files, folder, path, *removal),
+        Step::RemoveFails(_) => remove_fails(rt.alloc(), files, folder, path),
+        Step::IsMissing(_) => !files.is_there(path) && fs::symlink_metadata(rt, at).is_err(),
         Step::WriteFails(_) => write_fails(files, path, b"x"),
         Step::ReadsLong(_, at_most, length) => match long.get(..*length) {
             Some(wanted) => reads(rt.alloc(), files, path, *at_most, wanted),

@@ -1,4 +1,5 @@
 // A fresh folder for one test.
+use sd_value::{NoMemory, Str};
 use std::alloc::{AllocError, Global};
 use std::test::Fail;
 use std::{env, fs, process};
@@ -25,6 +26,11 @@ impl Folder {
     pub fn path(&self, alloc: Global, name: &str) -> Result<String, AllocError> {
         let path = format!(in alloc; "{}/{name}", self.path)?;
         Ok(path)
+    }
+
+    /// The folder's own path.
+    pub fn as_str(&self, alloc: Global) -> Result<Str, NoMemory> {
+        Str::new(alloc, self.path.as_bytes())
     }
 
     /// Removes the folder with all that is in it.

@@ -1,6 +1,6 @@
 // Each call of the forms in memory once, with ample memory, and a failing one of each kind.
 use crate::inputs::{check, check_text};
-use edge_io::{Failed, Files, MemFile, MemFiles, MemSink, ReadEnd, Sink};
+use edge_io::{Failed, Files, MemFile, MemFiles, MemSink, ReadEnd, Removal, Sink, Stored};
 use happenings::Stream;
 use sd_value::{NoMemory, Str};
 use std::alloc::Global;
@@ -25,7 +25,7 @@ fn is_read(alloc: Global, files: &mut MemFiles, path: &Str, start: &[u8]) -> boo
 }
 
 // Writes the text. Is this the end, and does the file hold the second text then?
-fn is_written(files: &mut MemFiles, path: &Str, text: &[u8], end: Result<(), Failed>) -> bool {
+fn is_written(files: &mut MemFiles, path: &Str, text: &[u8], end: Result<Stored, Failed>) -> bool {
     files.write(path, text) == end && files.bytes(path).unwrap_or(b"") == b"two".as_slice()
 }
 
@@ -39,7 +39,7 @@ fn wrong_call(
     if !is_read(alloc, files, path, b"on") {
         return Some("the start of a file");
     }
-    if !is_written(files, path, b"two", Ok(())) {
+    if !is_written(files, path, b"two", Ok(Stored::Written)) {
         return Some("a write");
     }
     if files.read(alloc, missing, 9) != Err(ReadEnd::Failed) {
@@ -51,7 +51,42 @@ fn wrong_call(
     if files.write_faults(path) != 1 || files.short() {
         return Some("other faults");
     }
+    if !is_written(files, path, b"two", Ok(Stored::Kept)) {
+        return Some("a write of what is there");
+    }
     None
+}
+
+// The first removal that goes wrong.
+fn wrong_removal(files: &mut MemFiles, path: &Str, missing: &Str) -> Option<&'static str> {
+    if !files.is_there(path) || files.is_there(missing) {
+        return Some("what is there");
+    }
+    if files.remove(missing, missing) != Ok(Removal::Absent) {
+        return Some("a missing file");
+    }
+    if files.remove(missing, path) != Ok(Removal::Removed) || files.is_there(path) {
+        return Some("a removal");
+    }
+    if files.remove(missing, path) != Ok(Removal::Absent) {
+        return Some("a file that was removed");
+    }
+    if files.remove(missing, path) != Err(Failed) || files.write_faults(path) != 1 {
+        return Some("a removal that fails");
+    }
+    None
+}
+
+#[test]
+fn files_are_removed(rt: HostRuntime) -> Result<(), Fail> {
+    let alloc = rt.alloc();
+    let path = Str::new(alloc, b"a")?;
+    let missing = Str::new(alloc, b"b")?;
+    let mut files = one_file(alloc, &path, b"one")?;
+    match wrong_removal(&mut files, &path, &missing) {
+        Some(call) => Err(Fail::new(call)),
+        None => Ok(()),
+    }
 }
 
 #[test]

@@ -3,7 +3,7 @@ use Rattle.std.specs.Prelude.{◌==◌, ◌+◌, ◌-◌, ◌^◌, ℕ, zero, su
 use Rattle.std.specs.List.{flat_map}
 use Rattle.happenings.specs.Happening.{Happening, Read, ReadFailed, Wrote, WriteFailed, Put, PutFailed, Watched}
 use Rattle.happenings.specs.Happening.{WatchFailed, Listened, ListenFailed, Given, NextFailed, Sent, SendFailed, Closed}
-use Rattle.happenings.specs.Happening.{Finished}
+use Rattle.happenings.specs.Happening.{Finished, Kept, Removed, RemoveFailed}
 
 -- what was done to a connection: these bytes of one send were taken, or it was closed
 pub data Deed : Type 0 where
@@ -46,7 +46,10 @@ abbrev pub deed_to : ℕ → Happening → List Deed
 deed_to number (Read path bytes) = []
 deed_to number (ReadFailed path) = []
 deed_to number (Wrote path bytes) = []
+deed_to number (Kept path bytes) = []
 deed_to number (WriteFailed path) = []
+deed_to number (Removed path) = []
+deed_to number (RemoveFailed path) = []
 deed_to number (Put stream text) = []
 deed_to number (PutFailed stream text taken) = []
 deed_to number (Watched path every) = []

@@ -2,7 +2,7 @@
 use Rattle.std.specs.Prelude.{◌≡◌, ℕ, List, ◌++◌, All, Option, ⊤}
 use Rattle.happenings.specs.Happening.{Happening, Read, ReadFailed, Wrote, WriteFailed, Put, PutFailed, Watched}
 use Rattle.happenings.specs.Happening.{WatchFailed, Listened, ListenFailed, Given, NextFailed, Sent, SendFailed, Closed}
-use Rattle.happenings.specs.Happening.{Finished}
+use Rattle.happenings.specs.Happening.{Finished, Kept, Removed, RemoveFailed}
 use Rattle.wire.specs.Accounts.{Account, after_deeds, account_in}
 
 -- it is a send or a close
@@ -10,7 +10,10 @@ abbrev pub IsDeed : Happening → Type 0
 IsDeed (Read path bytes) = ⊥
 IsDeed (ReadFailed path) = ⊥
 IsDeed (Wrote path bytes) = ⊥
+IsDeed (Kept path bytes) = ⊥
 IsDeed (WriteFailed path) = ⊥
+IsDeed (Removed path) = ⊥
+IsDeed (RemoveFailed path) = ⊥
 IsDeed (Put stream text) = ⊥
 IsDeed (PutFailed stream text taken) = ⊥
 IsDeed (Watched path every) = ⊥

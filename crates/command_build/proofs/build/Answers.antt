@@ -58,7 +58,7 @@ returns-in-Ok-put_noted-clause-course g c =
     let now = g.L.Trace.events c.put_noted.new.log in
     reads_then_writes c.args.command.now (g.O.Sink.stream c.args.out.now) (g.F.Files.contents c.args.files.now) status.Ok (g.L.Trace.events c.args.log.now) mid now
     c.in-Ok.inputs c.in-Ok.ensures.course
-    (line_put (inputs_of c.in-Ok.inputs) c.args.command.now.folder (g.O.Sink.stream c.args.out.now) mid (g.L.Trace.events c.write_noted.new.log) now c.in-Ok-write_noted.line
+    (line_put (inputs_of c.in-Ok.inputs) c.args.command.now.folder (g.F.Files.contents c.args.files.now) (g.F.Files.contents c.load_noted.new.files) c.in-Ok.ensures.same (g.O.Sink.stream c.args.out.now) mid (g.L.Trace.events c.write_noted.new.log) now c.in-Ok-write_noted.line
     c.in-Ok-write_noted.ensures.course (rw c.bytes.ensures at c.in-Ok-put_noted.ensures.course))
 
 pub returns-in-Ok-write_noted-clause-course : goal.returns-in-Ok-write_noted-clause-course
@@ -67,7 +67,7 @@ returns-in-Ok-write_noted-clause-course g c =
     let now = g.L.Trace.events c.put_noted.new.log in
     reads_then_writes c.args.command.now (g.O.Sink.stream c.args.out.now) (g.F.Files.contents c.args.files.now) status.WriteFault (g.L.Trace.events c.args.log.now) mid now
     c.in-Ok.inputs c.in-Ok.ensures.course
-    (line_cut (inputs_of c.in-Ok.inputs) c.args.command.now.folder (g.O.Sink.stream c.args.out.now) mid (g.L.Trace.events c.write_noted.new.log) now c.in-Ok-write_noted.line
+    (line_cut (inputs_of c.in-Ok.inputs) c.args.command.now.folder (g.F.Files.contents c.args.files.now) (g.F.Files.contents c.load_noted.new.files) c.in-Ok.ensures.same (g.O.Sink.stream c.args.out.now) mid (g.L.Trace.events c.write_noted.new.log) now c.in-Ok-write_noted.line
     c.in-Err-put_noted.ensures.course.0 c.in-Ok-write_noted.ensures.course (rw c.bytes.ensures at c.in-Err-put_noted.ensures.course.1))
 
 pub returns-clause-course : goal.returns-clause-course
@@ -76,5 +76,5 @@ returns-clause-course g c =
     let now = g.L.Trace.events c.write_noted.new.log in
     reads_then_writes c.args.command.now (g.O.Sink.stream c.args.out.now) (g.F.Files.contents c.args.files.now) c.status_of_stop.result (g.L.Trace.events c.args.log.now) mid now
     c.in-Ok.inputs c.in-Ok.ensures.course
-    (no_line (inputs_of c.in-Ok.inputs) c.args.command.now.folder (g.O.Sink.stream c.args.out.now) mid now [] c.in-Err-write_noted.stop c.status_of_stop.result c.status_of_stop.ensures
+    (no_line (inputs_of c.in-Ok.inputs) c.args.command.now.folder (g.F.Files.contents c.args.files.now) (g.F.Files.contents c.load_noted.new.files) c.in-Ok.ensures.same (g.O.Sink.stream c.args.out.now) mid now [] c.in-Err-write_noted.stop c.status_of_stop.result c.status_of_stop.ensures
     c.in-Err-write_noted.ensures.course)

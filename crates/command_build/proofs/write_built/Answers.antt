@@ -80,7 +80,7 @@ returns-in_err-line-clause-cause g c =
 
 pub returns-in-Ok-clause-traced : goal.returns-in-Ok-clause-traced
 returns-in-Ok-clause-traced g c =
-    written_added (inputs_of c.args.inputs) _ _ _ _ c.args.folder.now c.as_slice-terms.result.now (Ok c.in_ok-line.line) _ _
+    written_added (g.F.Files.contents c.args.files.now) (g.F.Files.contents c.write_site.new.files) (inputs_of c.args.inputs) _ _ _ _ c.args.folder.now c.as_slice-terms.result.now (Ok c.in_ok-line.line) _ _
     (c.in_ok-whole.ensures.graph ∙ c.of-asker.ensures.store ∙ c.in_ok-store.ensures)
     (ap scope_of c.in_ok-whole.ensures.scopes ∙ c.in_ok-scopes.ensures.scope)
     (ap file_of c.in_ok-whole.ensures.templates)
@@ -91,7 +91,7 @@ returns-in-Ok-clause-traced g c =
 
 pub returns-clause-traced : goal.returns-clause-traced
 returns-clause-traced g c =
-    written_added (inputs_of c.args.inputs) _ _ _ _ c.args.folder.now c.as_slice-terms.result.now (Err c.in-Err.stop) _ _
+    written_added (g.F.Files.contents c.args.files.now) (g.F.Files.contents c.write_site.new.files) (inputs_of c.args.inputs) _ _ _ _ c.args.folder.now c.as_slice-terms.result.now (Err c.in-Err.stop) _ _
     (c.in_ok-whole.ensures.graph ∙ c.of-asker.ensures.store ∙ c.in_ok-store.ensures)
     (ap scope_of c.in_ok-whole.ensures.scopes ∙ c.in_ok-scopes.ensures.scope)
     (ap file_of c.in_ok-whole.ensures.templates)
@@ -103,24 +103,24 @@ returns-clause-traced g c =
 pub returns-in_err-pages-clause-traced : goal.returns-in_err-pages-clause-traced
 returns-in_err-pages-clause-traced g c =
     let p = err_from_is_err_and c.from_residual-in_err-pages.result c.from_residual-in_err-pages.ensures.1 in
-    unwritten_added (inputs_of c.args.inputs) c.args.folder.now c.from_residual-in_err-pages.result (g.F.Files.trace c.args.files.now) (p.1 ∙ ap (λ (r : Stop). Err r) p.2)
+    unwritten_added (g.F.Files.contents c.args.files.now) (inputs_of c.args.inputs) c.args.folder.now c.from_residual-in_err-pages.result (g.F.Files.trace c.args.files.now) (p.1 ∙ ap (λ (r : Stop). Err r) p.2)
 
 pub returns-in_err-line-clause-traced : goal.returns-in_err-line-clause-traced
 returns-in_err-line-clause-traced g c =
     let p = err_from_is_err_and c.from_residual-in_err-line.result c.from_residual-in_err-line.ensures.1 in
-    unwritten_added (inputs_of c.args.inputs) c.args.folder.now c.from_residual-in_err-line.result (g.F.Files.trace c.args.files.now) (p.1 ∙ ap (λ (r : Stop). Err r) p.2)
+    unwritten_added (g.F.Files.contents c.args.files.now) (inputs_of c.args.inputs) c.args.folder.now c.from_residual-in_err-line.result (g.F.Files.trace c.args.files.now) (p.1 ∙ ap (λ (r : Stop). Err r) p.2)
 
 pub returns-in_err-scopes-clause-traced : goal.returns-in_err-scopes-clause-traced
 returns-in_err-scopes-clause-traced g c =
     let p = err_from_is_err_and c.from_residual.result c.from_residual.ensures.1 in
-    unwritten_added (inputs_of c.args.inputs) c.args.folder.now c.from_residual.result (g.F.Files.trace c.args.files.now) (p.1 ∙ ap (λ (r : Stop). Err r) p.2)
+    unwritten_added (g.F.Files.contents c.args.files.now) (inputs_of c.args.inputs) c.args.folder.now c.from_residual.result (g.F.Files.trace c.args.files.now) (p.1 ∙ ap (λ (r : Stop). Err r) p.2)
 
 pub returns-in_err-store-clause-traced : goal.returns-in_err-store-clause-traced
 returns-in_err-store-clause-traced g c =
     let p = err_from_is_err_and c.from_residual-in_err-store.result c.from_residual-in_err-store.ensures.1 in
-    unwritten_added (inputs_of c.args.inputs) c.args.folder.now c.from_residual-in_err-store.result (g.F.Files.trace c.args.files.now) (p.1 ∙ ap (λ (r : Stop). Err r) p.2)
+    unwritten_added (g.F.Files.contents c.args.files.now) (inputs_of c.args.inputs) c.args.folder.now c.from_residual-in_err-store.result (g.F.Files.trace c.args.files.now) (p.1 ∙ ap (λ (r : Stop). Err r) p.2)
 
 pub returns-in_err-whole-clause-traced : goal.returns-in_err-whole-clause-traced
 returns-in_err-whole-clause-traced g c =
     let p = err_from_is_err_and c.from_residual-in_err-whole.result c.from_residual-in_err-whole.ensures.1 in
-    unwritten_added (inputs_of c.args.inputs) c.args.folder.now c.from_residual-in_err-whole.result (g.F.Files.trace c.args.files.now) (p.1 ∙ ap (λ (r : Stop). Err r) p.2)
+    unwritten_added (g.F.Files.contents c.args.files.now) (inputs_of c.args.inputs) c.args.folder.now c.from_residual-in_err-whole.result (g.F.Files.trace c.args.files.now) (p.1 ∙ ap (λ (r : Stop). Err r) p.2)

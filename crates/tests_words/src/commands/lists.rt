@@ -374,6 +374,14 @@ const WITH_LENIENT: &[CommandRow] = &[
         command: "build q t o d leniently",
     },
     CommandRow {
+        words: &["build", "q", "t", "o", "--durable", "d"],
+        command: "build durably q t o d",
+    },
+    CommandRow {
+        words: &["build", "q", "t", "o", "d", "--", "--durable"],
+        command: "build q t o d --durable",
+    },
+    CommandRow {
         words: &["data", "--lenient", "d"],
         command: "data d leniently",
     },
@@ -427,6 +435,8 @@ const NO_COMMANDS: &[&[&str]] = &[
     &["explain", "q"],
     &["page", "q", "t", "a"],
     &["build", "q", "t", "d"],
+    &["build", "--durable=1", "q", "t", "o", "d"],
+    &["page", "--durable", "q", "t", "a", "d"],
     &["data"],
     &["data", "--"],
     &["data", "-v", "d"],

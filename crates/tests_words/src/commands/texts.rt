@@ -168,7 +168,12 @@ fn page_text(alloc: Global, c: &PageCommand) -> Result<Vec<u8>, NoMemory> {
 
 fn build_text(alloc: Global, c: &BuildCommand) -> Result<Vec<u8>, NoMemory> {
     let paths = [&c.query, &c.templates, &c.folder];
-    let text = named(alloc, b"build", &paths, c.sources.paths.items(), &[])?;
+    let name: &[u8] = if c.durable {
+        b"build durably"
+    } else {
+        b"build"
+    };
+    let text = named(alloc, name, &paths, c.sources.paths.items(), &[])?;
     data_text(text, &c.sources, &c.over)
 }
 

@@ -43,7 +43,7 @@ const ROWS: &[UsageRow] = &[
         words: &["build", "q", "t", "f", "d"],
         fewest: 5,
         operands: "QUERY TEMPLATES DIR DATA..",
-        flag: Flag::None,
+        flag: Flag::May("--durable"),
         options: &[ValueOption::Text(TextOption::Over)],
         reads_data: true,
     },

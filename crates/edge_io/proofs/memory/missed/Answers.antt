@@ -1,4 +1,4 @@
-use Rattle.edge_io.proofs.Times.{counted_later, counted_rose, same_later}
+use Rattle.edge_io.proofs.Times.{counted_later, counted_rose}
 use Rattle.edge_io.proofs.memory.missed.Goals as goal
 
 pub returns-in-Ok-clause-later : goal.returns-in-Ok-clause-later

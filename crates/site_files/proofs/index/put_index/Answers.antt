@@ -22,9 +22,9 @@ returns-clause-ends g c = λ old told. no_index_told (g.P.Pages.site (g.P.Pages.
 
 pub returns-in-Ok-clause-traced : goal.returns-in-Ok-clause-traced
 returns-in-Ok-clause-traced g c =
-    index_put (g.P.Pages.site (g.P.Pages.fixed c.args.pages.now)) (g.P.Pages.templates (g.P.Pages.fixed c.args.pages.now)) c.args.folder.now c.args.page.now c.in_ok-path.path c.bytes.result.now c.in-Page.text _ _ c.in_ok-path.ensures c.bytes.ensures
+    index_put (g.P.Pages.site (g.P.Pages.fixed c.args.pages.now)) (g.P.Pages.templates (g.P.Pages.fixed c.args.pages.now)) c.args.folder.now (g.F.Files.contents c.args.files.now) (g.F.Files.contents c.write.new.self) c.args.page.now c.in_ok-path.path c.bytes.result.now c.in-Page.text _ _ c.in-Ok.field-0 c.in_ok-path.ensures c.bytes.ensures
     (subst (IsOutcome (g.P.Pages.site (g.P.Pages.fixed c.args.pages.now)) (g.P.Pages.templates (g.P.Pages.fixed c.args.pages.now)) c.args.page.now) c.in-Page.is c.in_ok-text.ensures.outcome)
-    c.in-Ok.ensures.traced
+    c.in-Ok.ensures.traced c.in-Ok.ensures.written c.in-Ok.ensures.stored
 
 pub returns-clause-traced : goal.returns-clause-traced
-returns-clause-traced g c = index_failed (g.P.Pages.site (g.P.Pages.fixed c.args.pages.now)) (g.P.Pages.templates (g.P.Pages.fixed c.args.pages.now)) c.args.folder.now c.args.page.now c.in_ok-path.path _ _ c.in_ok-path.ensures c.in-Err.ensures.traced
+returns-clause-traced g c = index_failed (g.P.Pages.site (g.P.Pages.fixed c.args.pages.now)) (g.P.Pages.templates (g.P.Pages.fixed c.args.pages.now)) c.args.folder.now (g.F.Files.contents c.args.files.now) (g.F.Files.contents c.write.new.self) c.args.page.now c.in_ok-path.path _ _ c.in_ok-path.ensures c.in-Err.ensures.traced

@@ -32,8 +32,8 @@ loop-term-preserved g c = record {
       more_told (g.P.Pages.site (g.P.Pages.fixed c.args.pages.now)) (g.P.Pages.templates (g.P.Pages.fixed c.args.pages.now)) c.args.folder.now (g.F.Files.contents c.loop-term.files) (g.F.Files.contents c.write_page.new.files) c.args.terms.now c.loop-term.term-index c.term-item.result old c.loop-term-test.true c.term-item.is (c.loop-term.invariant.written old told)
       (λ now is. subst (λ fx. IsSomeAnd (g.F.Files.contents c.write_page.new.files) (λ new. PageEnds (g.P.Pages.site fx) (g.P.Pages.templates fx) c.args.folder.now c.term-item.result now new (Ok tt))) c.loop-term.invariant.fixed (c.in-Ok.ensures.ends now is));
   added =
-      more_written (g.P.Pages.site (g.P.Pages.fixed c.args.pages.now)) (g.P.Pages.templates (g.P.Pages.fixed c.args.pages.now)) c.args.folder.now c.args.terms.now c.loop-term.term-index c.term-item.result _ _ _ c.loop-term-test.true c.term-item.is c.loop-term.invariant.added
-      (subst (λ fx. PageAdds (g.P.Pages.site fx) (g.P.Pages.templates fx) c.args.folder.now c.term-item.result (g.F.Files.trace c.loop-term.files) (g.F.Files.trace c.write_page.new.files) (Ok tt)) c.loop-term.invariant.fixed c.in-Ok.ensures.traced);
+      more_written (g.P.Pages.site (g.P.Pages.fixed c.args.pages.now)) (g.P.Pages.templates (g.P.Pages.fixed c.args.pages.now)) c.args.folder.now (g.F.Files.contents c.args.files.now) (g.F.Files.contents c.loop-term.files) (g.F.Files.contents c.write_page.new.files) c.args.terms.now c.loop-term.term-index c.term-item.result _ _ _ c.loop-term-test.true c.term-item.is c.loop-term.invariant.added
+      (subst (λ fx. PageAdds (g.F.Files.contents c.loop-term.files) (g.F.Files.contents c.write_page.new.files) (g.P.Pages.site fx) (g.P.Pages.templates fx) c.args.folder.now c.term-item.result (g.F.Files.trace c.loop-term.files) (g.F.Files.trace c.write_page.new.files) (Ok tt)) c.loop-term.invariant.fixed c.in-Ok.ensures.traced);
 }
 
 pub returns-in-Err-clause-fixed : goal.returns-in-Err-clause-fixed
@@ -63,8 +63,8 @@ returns-clause-ends g c = λ old told. all_told (g.P.Pages.site (g.P.Pages.fixed
 
 pub returns-in-Err-clause-traced : goal.returns-in-Err-clause-traced
 returns-in-Err-clause-traced g c =
-    stop_written (g.P.Pages.site (g.P.Pages.fixed c.args.pages.now)) (g.P.Pages.templates (g.P.Pages.fixed c.args.pages.now)) c.args.folder.now c.args.terms.now c.loop-term.term-index c.term-item.result _ _ _ c.in-Err.stop c.loop-term-test.true c.term-item.is c.loop-term.invariant.added
-    (subst (λ fx. PageAdds (g.P.Pages.site fx) (g.P.Pages.templates fx) c.args.folder.now c.term-item.result (g.F.Files.trace c.loop-term.files) (g.F.Files.trace c.write_page.new.files) (Err c.in-Err.stop)) c.loop-term.invariant.fixed c.in-Err.ensures.traced)
+    stop_written (g.P.Pages.site (g.P.Pages.fixed c.args.pages.now)) (g.P.Pages.templates (g.P.Pages.fixed c.args.pages.now)) c.args.folder.now (g.F.Files.contents c.args.files.now) (g.F.Files.contents c.loop-term.files) (g.F.Files.contents c.write_page.new.files) c.args.terms.now c.loop-term.term-index c.term-item.result _ _ _ c.in-Err.stop c.loop-term-test.true c.term-item.is c.loop-term.invariant.added
+    (subst (λ fx. PageAdds (g.F.Files.contents c.loop-term.files) (g.F.Files.contents c.write_page.new.files) (g.P.Pages.site fx) (g.P.Pages.templates fx) c.args.folder.now c.term-item.result (g.F.Files.trace c.loop-term.files) (g.F.Files.trace c.write_page.new.files) (Err c.in-Err.stop)) c.loop-term.invariant.fixed c.in-Err.ensures.traced)
 
 pub returns-clause-traced : goal.returns-clause-traced
-returns-clause-traced g c = all_written (g.P.Pages.site (g.P.Pages.fixed c.args.pages.now)) (g.P.Pages.templates (g.P.Pages.fixed c.args.pages.now)) c.args.folder.now c.args.terms.now c.loop-term.term-index _ _ c.loop-term-test.false c.loop-term.invariant.added
+returns-clause-traced g c = all_written (g.P.Pages.site (g.P.Pages.fixed c.args.pages.now)) (g.P.Pages.templates (g.P.Pages.fixed c.args.pages.now)) c.args.folder.now (g.F.Files.contents c.args.files.now) (g.F.Files.contents c.loop-term.files) c.args.terms.now c.loop-term.term-index _ _ c.loop-term-test.false c.loop-term.invariant.added

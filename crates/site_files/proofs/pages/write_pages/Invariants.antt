@@ -4,8 +4,8 @@ use Rattle.std.specs.Option.{IsSomeAnd}
 use Rattle.sd_value.specs.declared.Term.{Term}
 use Rattle.edge_io.specs.Files.{FileMap}
 use Rattle.edge_io.specs.Counts.{NoneFell}
-use Rattle.std.specs.List.{AllZip}
-use Rattle.files_spec.specs.Writes.{Adds, IsPageWritten}
+use Rattle.files_spec.specs.Writes.{Adds}
+use Rattle.site_files.proofs.Writing.{ArePut}
 use Rattle.files_spec.specs.Files.{IsPageText, PagesWritten}
 use Rattle.site_files.proofs.pages.write_pages.Given as goal
 
@@ -18,5 +18,5 @@ invariant-loop-term g l = record {
   texts : (t : Term) → Contains (take l.term-index l.terms) t → (text : List ℕ) × IsPageText (g.P.Pages.site (g.P.Pages.fixed l.initial.pages)) (g.P.Pages.templates (g.P.Pages.fixed l.initial.pages)) t text;
   written : (old : FileMap) → g.F.Files.contents l.initial.files ≡ Some old
       → IsSomeAnd (g.F.Files.contents l.files) (λ now. PagesWritten (g.P.Pages.site (g.P.Pages.fixed l.initial.pages)) (g.P.Pages.templates (g.P.Pages.fixed l.initial.pages)) l.folder (take l.term-index l.terms) old now);
-  added : Adds (g.F.Files.trace l.initial.files) (g.F.Files.trace l.files) (λ part. AllZip (IsPageWritten (g.P.Pages.site (g.P.Pages.fixed l.initial.pages)) (g.P.Pages.templates (g.P.Pages.fixed l.initial.pages)) l.folder) (take l.term-index l.terms) part);
+  added : Adds (g.F.Files.trace l.initial.files) (g.F.Files.trace l.files) (ArePut (g.P.Pages.site (g.P.Pages.fixed l.initial.pages)) (g.P.Pages.templates (g.P.Pages.fixed l.initial.pages)) l.folder (g.F.Files.contents l.initial.files) (g.F.Files.contents l.files) (take l.term-index l.terms));
 }

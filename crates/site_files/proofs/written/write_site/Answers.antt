@@ -6,6 +6,7 @@ use Rattle.address.specs.Targets.{root_name}
 use Rattle.files_spec.specs.Files.{IndexEnds, root_term}
 use Rattle.std.specs.Prelude.{None, Some, Ok}
 use Rattle.files_spec.specs.Writes.{Adds, IndexWrites}
+use Rattle.site_files.specs.Traced.{AreSparing}
 use Rattle.site_files.proofs.Writing.{site_stops, site_written, no_index}
 use Rattle.site_files.proofs.InTurn.{pages_stop, index_then, no_root_then}
 use Rattle.site_files.proofs.Causes.{still_rose, fell_not}
@@ -46,14 +47,14 @@ returns-in-Some-clause-cause g c = record {
 }
 
 pub returns-in-Err-clause-traced : goal.returns-in-Err-clause-traced
-returns-in-Err-clause-traced g c = site_stops (g.P.Pages.site (g.P.Pages.fixed c.args.pages.now)) (g.P.Pages.templates (g.P.Pages.fixed c.args.pages.now)) c.args.folder.now c.args.terms.now (root_name c.args.root) _ _ c.in-Err.stop c.in-Err.ensures.traced
+returns-in-Err-clause-traced g c = site_stops (g.P.Pages.site (g.P.Pages.fixed c.args.pages.now)) (g.P.Pages.templates (g.P.Pages.fixed c.args.pages.now)) c.args.folder.now (g.F.Files.contents c.args.files.now) (g.F.Files.contents c.write_pages.new.files) c.args.terms.now (root_name c.args.root) _ _ c.in-Err.stop c.in-Err.ensures.traced
 
 pub returns-in-Some-clause-traced : goal.returns-in-Some-clause-traced
 returns-in-Some-clause-traced g c =
-    site_written (g.P.Pages.site (g.P.Pages.fixed c.args.pages.now)) (g.P.Pages.templates (g.P.Pages.fixed c.args.pages.now)) c.args.folder.now c.args.terms.now (Some c.in-Some.root.now) (root_name c.args.root) _ _ _ c.write_index.result (ap root_name c.in-Some.is) c.in-Ok.ensures.traced
-    (subst (λ fx. Adds (g.F.Files.trace c.write_pages.new.files) (g.F.Files.trace c.write_index.new.files) (λ part. IndexWrites (g.P.Pages.site fx) (g.P.Pages.templates fx) c.args.folder.now c.args.terms.now (Some c.in-Some.root.now) part c.write_index.result)) c.in-Ok.ensures.fixed c.write_index.ensures.traced)
+    site_written (g.P.Pages.site (g.P.Pages.fixed c.args.pages.now)) (g.P.Pages.templates (g.P.Pages.fixed c.args.pages.now)) c.args.folder.now (g.F.Files.contents c.args.files.now) (g.F.Files.contents c.write_pages.new.files) (g.F.Files.contents c.write_index.new.files) c.args.terms.now (Some c.in-Some.root.now) (root_name c.args.root) _ _ _ c.write_index.result (ap root_name c.in-Some.is) c.in-Ok.ensures.traced
+    (subst (λ fx. Adds (g.F.Files.trace c.write_pages.new.files) (g.F.Files.trace c.write_index.new.files) (λ part. IndexWrites (g.P.Pages.site fx) (g.P.Pages.templates fx) c.args.folder.now c.args.terms.now (Some c.in-Some.root.now) part c.write_index.result × AreSparing (g.F.Files.contents c.write_pages.new.files) (g.F.Files.contents c.write_index.new.files) part c.write_index.result)) c.in-Ok.ensures.fixed c.write_index.ensures.traced)
 
 pub returns-in-None-clause-traced : goal.returns-in-None-clause-traced
 returns-in-None-clause-traced g c =
-    site_written (g.P.Pages.site (g.P.Pages.fixed c.args.pages.now)) (g.P.Pages.templates (g.P.Pages.fixed c.args.pages.now)) c.args.folder.now c.args.terms.now None (root_name c.args.root) _ _ _ (Ok tt) (ap root_name c.in-None.is) c.in-Ok.ensures.traced
-    (no_index (g.P.Pages.site (g.P.Pages.fixed c.args.pages.now)) (g.P.Pages.templates (g.P.Pages.fixed c.args.pages.now)) c.args.folder.now c.args.terms.now _)
+    site_written (g.P.Pages.site (g.P.Pages.fixed c.args.pages.now)) (g.P.Pages.templates (g.P.Pages.fixed c.args.pages.now)) c.args.folder.now (g.F.Files.contents c.args.files.now) (g.F.Files.contents c.write_pages.new.files) (g.F.Files.contents c.write_pages.new.files) c.args.terms.now None (root_name c.args.root) _ _ _ (Ok tt) (ap root_name c.in-None.is) c.in-Ok.ensures.traced
+    (no_index (g.P.Pages.site (g.P.Pages.fixed c.args.pages.now)) (g.P.Pages.templates (g.P.Pages.fixed c.args.pages.now)) c.args.folder.now (g.F.Files.contents c.write_pages.new.files) c.args.terms.now _)
