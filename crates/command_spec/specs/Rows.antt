@@ -80,7 +80,7 @@ build_row = record {
       ++ codes "  --lenient        reads CSV, JSON and BibTeX by the lenient rules\n";
 =======
       ++ codes "  --durable        waits for each file until it is on the disk\n"
-      ++ codes "  --lenient        reads CSV and JSON by the lenient rules\n";
+      ++ codes "  --lenient        reads CSV, JSON and BibTeX by the lenient rules\n";
 >>>>>>> 06416b74746f05cc9418536af0978eaff93a32e7
 }
 

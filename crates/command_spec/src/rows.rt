@@ -120,7 +120,7 @@ Writes every page of the site to its file, and prints how many there are.\n\
 \x20 --lenient        reads CSV, JSON and BibTeX by the lenient rules\n",
 =======
 \x20 --durable        waits for each file until it is on the disk\n\
-\x20 --lenient        reads CSV and JSON by the lenient rules\n",
+\x20 --lenient        reads CSV, JSON and BibTeX by the lenient rules\n",
 >>>>>>> 06416b74746f05cc9418536af0978eaff93a32e7
 };
 
