@@ -76,12 +76,8 @@ build_row = record {
       ++ codes "  DIR              the folder of the files\n"
       ++ codes "  DATA             a data file: data text, CSV, JSON or BibTeX\n"
       ++ codes "  --over FILE      a first query, whose site over the data files is the data\n"
-<<<<<<< HEAD
-      ++ codes "  --lenient        reads CSV, JSON and BibTeX by the lenient rules\n";
-=======
       ++ codes "  --durable        waits for each file until it is on the disk\n"
       ++ codes "  --lenient        reads CSV, JSON and BibTeX by the lenient rules\n";
->>>>>>> 06416b74746f05cc9418536af0978eaff93a32e7
 }
 
 -- the row of `data`

@@ -116,12 +116,8 @@ Writes every page of the site to its file, and prints how many there are.\n\
 \x20 DIR              the folder of the files\n\
 \x20 DATA             a data file: data text, CSV, JSON or BibTeX\n\
 \x20 --over FILE      a first query, whose site over the data files is the data\n\
-<<<<<<< HEAD
-\x20 --lenient        reads CSV, JSON and BibTeX by the lenient rules\n",
-=======
 \x20 --durable        waits for each file until it is on the disk\n\
 \x20 --lenient        reads CSV, JSON and BibTeX by the lenient rules\n",
->>>>>>> 06416b74746f05cc9418536af0978eaff93a32e7
 };
 
 const DATA: CommandRow = CommandRow {
