@@ -5,6 +5,7 @@ import random
 import re
 import subprocess
 import sys
+import unicodedata
 
 from measure import STRUDEL, exponent, least, measured, written
 
@@ -82,12 +83,16 @@ class Reader:
         if byte.isdigit():
             return self.run(b"0123456789", b"0123456789")
         start = self.at
-        name = self.run(LETTERS, NAMES).lower()
-        if name not in self.macros:
+        text = self.macro(self.run(LETTERS, NAMES))
+        if text is None:
             raise Refused(122, start)
-        if len(before) + len(self.macros[name]) > LARGEST:
+        if len(before) + len(text) > LARGEST:
             raise Refused(124, start)
-        return self.macros[name]
+        return text
+
+    def macro(self, name):
+        """The text that a name stands for, if it stands for one."""
+        return self.macros.get(name.lower())
 
     def value(self):
         text = self.piece(b"")
@@ -108,7 +113,7 @@ class Reader:
         if not found:
             self.expected()
         self.at = found.end()
-        key, edges = found[0], []
+        key, fields = found[0], []
         while self.one(b"," + close) == b",":
             self.blanks()
             if self.byte() == close:
@@ -116,15 +121,22 @@ class Reader:
                 break
             name = self.run(LETTERS, NAMES).lower()
             self.one(b"=")
-            edges += [(name, it) for it in values(name, self.value())]
+            fields.append((name, tidy(self.value())))
+        self.enter(stem, kind, key, fields)
+
+    def enter(self, stem, kind, key, fields):
+        """An entry, whose last byte was read."""
+        self.state(key, {stem, kind}, [(name, it) for name, text in fields for it in values(name, text)])
+
+    def state(self, key, collections, edges):
         node = self.nodes.setdefault(key, (set(), set()))
-        node[0].update((stem, kind))
+        node[0].update(collections)
         node[1].update(edges)
 
     def read(self, stem):
         """The nodes: their collections, and their edges as pairs of a label and a value."""
         while (at := self.text.find(b"@", self.at)) >= 0:
-            self.at = at + 1
+            self.start, self.at = at, at + 1
             word = self.run(LETTERS, LETTERS).lower()
             if word == b"string":
                 close = self.opened()
@@ -156,11 +168,19 @@ def parted(text):
     yield text[start:]
 
 
+def tidy(text):
+    """A text with one space for each run of blanks, and none at its ends."""
+    return re.sub(rb"[ \t\r\n]+", b" ", text).strip(b" ")
+
+
+def texts(name, text):
+    """The texts that a field gives: each of its people, or all of it."""
+    return [tidy(it) for it in parted(text)] if name in (b"author", b"editor") else [text]
+
+
 def values(name, text):
     """The values that a field states: an integer, or a text."""
-    text = re.sub(rb"[ \t\r\n]+", b" ", text).strip(b" ")
-    for part in parted(text) if name in (b"author", b"editor") else [text]:
-        part = part.strip(b" ")
+    for part in texts(name, text):
         if re.fullmatch(rb"0|-?[1-9][0-9]*", part) and -(2**63) <= int(part) < 2**63:
             yield int(part)
         elif part:
@@ -173,23 +193,199 @@ def quoted(text):
     return b'"' + text + b'"'
 
 
+class Node(bytes):
+    """The name of a node, as a value."""
+
+
+def value_text(value):
+    return b"%d" % value if isinstance(value, int) else b"&" * isinstance(value, Node) + quoted(value)
+
+
 def canonical(nodes):
     """The graph's canonical data text."""
     for key in sorted(nodes):
         collections, edges = nodes[key]
-        yield b"object " + quoted(key) + b" in " + b", ".join(quoted(it) for it in sorted(collections)) + b" {\n"
+        yield b"object " + quoted(key) + b" in " * bool(collections) + b", ".join(quoted(it) for it in sorted(collections)) + b" {\n"
         for label, value in sorted(edges, key=lambda it: (it[0], not isinstance(it[1], int), it[1])):
-            yield b"  " + quoted(label) + b" " + (b"%d" % value if isinstance(value, int) else quoted(value)) + b"\n"
+            yield b"  " + quoted(label) + b" " + value_text(value) + b"\n"
         yield b"}\n"
 
 
-def answer(path):
+# ---- as it is read leniently
+
+SIGNS = dict(zip("`'^~=.\"", "\u0300\u0301\u0302\u0303\u0304\u0307\u0308"))
+MARKS = dict(zip("urHvdckb", "\u0306\u030a\u030b\u030c\u0323\u0327\u0328\u0331"))
+SPECIAL = {"ss": "ß", "o": "ø", "aa": "å", "ae": "æ", "oe": "œ", "l": "ł", "i": "ı", "j": "ȷ", "th": "þ", "dh": "ð", "O": "Ø", "AA": "Å", "AE": "Æ", "OE": "Œ", "L": "Ł", "TH": "Þ", "DH": "Ð"}
+SIGNED = re.compile(r"---|--|``|''|~")
+INSTEAD = {"---": "—", "--": "–", "``": "“", "''": "”", "~": " "}
+MONTHS = "january february march april may june july august september october november december".split()
+
+
+def shown(text):
+    """What TeX shows of a text, in pieces."""
+    at, accents = 0, ""
+    while at < len(text):
+        sign = text[at]
+        word = re.compile(r"\\([A-Za-z]+)").match(text, at)
+        found = SIGNED.match(text, at)
+        if word:
+            at, name = word.end(), word[1]
+            if name in MARKS:
+                accents = (MARKS[name] + accents)[:2]
+            elif name in SPECIAL:
+                yield (name if accents and name in "ij" else SPECIAL[name]) + accents
+                at, accents = re.compile(r"[ \t\r\n]*").match(text, at).end(), ""
+            elif text[at : at + 1] != "{":
+                yield name + accents
+                accents = ""
+            continue
+        at += 1
+        if sign == "\\":
+            sign, at = text[at : at + 1], at + 1
+            if sign in SIGNS and text[at : at + 2] != "{}":
+                accents = (SIGNS[sign] + accents)[:2]
+            elif sign:
+                yield sign + accents
+                at, accents = at + 2 * (sign in SIGNS), ""
+        elif sign in "{}":
+            accents = accents if sign == "{" else ""
+        elif accents:
+            if sign not in " \t\r\n":
+                yield sign + accents
+                accents = ""
+        elif found:
+            yield INSTEAD[found[0]]
+            at = found.end()
+        else:
+            yield sign
+
+
+def plain(text):
+    """A text as people read it."""
+    found = "".join(shown(text.decode("utf-8", "surrogateescape")))
+    if not any("\udc80" <= it <= "\udcff" for it in found):
+        found = unicodedata.normalize("NFC", found)
+    return tidy(found.encode("utf-8", "surrogateescape"))
+
+
+def month(text):
+    """A month's number, or the text."""
+    word = text.decode("utf-8", "surrogateescape").removesuffix(".").lower()
+    return next((b"%d" % (n + 1) for n, it in enumerate(MONTHS) if word in (it, it[:3])), text)
+
+
+def name_shown(name):
+    """A name with its last name last."""
+    depth, parts = 0, [b""]
+    for at in range(len(name)):
+        byte = name[at : at + 1]
+        depth += {b"{": 1, b"}": -1}.get(byte, 0)
+        if byte == b"," and depth == 0:
+            parts.append(b"")
+        else:
+            parts[-1] += byte
+    return plain(name if len(parts) not in (2, 3) else b" ".join([parts[-1], parts[0], *parts[1:-1]]))
+
+
+def byline(fields):
+    """The people of an entry in their order."""
+    people = next(filter(None, ([it for name, text in fields if name == wanted for it in texts(name, text) if it] for wanted in (b"author", b"editor"))), [])
+    names = [name_shown(it) for it in people]
+    if len(names) < 2:
+        return b"".join(names)
+    return b", ".join(names[:-1]) + (b" et al." if names[-1] == b"others" else b" and " + names[-1])
+
+
+def cleared(text):
+    """A text with blanks for comments within items and for each `@` that begins no item."""
+    text, at = bytearray(text), 0
+    begins = re.compile(rb"@[ \t\r\n]*([A-Za-z]+)[ \t\r\n]*([{(])([ \t\r\n]*)")
+    while (at := text.find(b"@", at)) >= 0:
+        item = begins.match(text, at)
+        if item is None or item[1].lower() == b"comment":
+            text[at : at + 1] = b" "
+            continue
+        close, at, keyed = (b"}" if item[2] == b"{" else b")"), item.start(3), item[1].lower() not in (b"string", b"preamble")
+        ends, depth = None, 0
+        while at < len(text):
+            byte = bytes(text[at : at + 1])
+            if ends is not None:
+                if byte == ends and depth == 0:
+                    ends = None
+                depth += {b"{": 1, b"}": -1}.get(byte, 0) * (ends is not None)
+                if depth < 0:
+                    ends, depth = None, 0
+            elif byte == b"%":
+                end = re.compile(rb"[\r\n]|$").search(text, at).start()
+                text[at:end] = b" " * (end - at)
+                at = end
+                continue
+            elif keyed and byte not in BLANKS:
+                keyed = False
+                at = re.compile(rb"[^ \t\r\n,})]*").match(text, at).end()
+                continue
+            elif byte == close:
+                break
+            elif byte in b'{"':
+                ends, depth = (b"}" if byte == b"{" else b'"'), 0
+            at += 1
+    return bytes(text)
+
+
+class Lenient(Reader):
+    """The same, read leniently."""
+
+    def __init__(self, text):
+        super().__init__(cleared(text))
+        self.file, self.entries, self.first = text, [], {}
+
+    def macro(self, name):
+        return self.macros.get(name.lower(), name)
+
+    def enter(self, stem, kind, key, fields):
+        self.entries.append((stem, kind, key, fields, self.file[self.start : self.at]))
+        self.first.setdefault(key, fields)
+
+    def read(self, stem):
+        super().read(stem)
+        for stem, kind, key, fields, own in self.entries:
+            self.state(key, {stem, kind}, self.edges(self.whole(fields), own))
+        for _, edges in list(self.nodes.values()):
+            for _, value in edges:
+                if isinstance(value, Node):
+                    self.state(bytes(value), (), ())
+        return self.nodes
+
+    def whole(self, fields):
+        """Fields, with what they lack of the entries that are named by `crossref`."""
+        fields, last = list(fields), fields
+        for _ in range(64):
+            last = self.first.get(next((text for name, text in last if name == b"crossref"), None))
+            if last is None:
+                break
+            names = {b"crossref", b"bibtex"} | {name for name, _ in fields}
+            fields += [it for it in last if it[0] not in names]
+        return fields
+
+    def edges(self, fields, own):
+        for name, text in fields:
+            if name == b"crossref":
+                if text:
+                    yield name, Node(text)
+                continue
+            for it in texts(name, text):
+                yield from ((name, value) for value in values(b"", month(plain(it)) if name == b"month" else plain(it)))
+        for label, text in ((b"byline", byline(fields)), (b"bibtex", own)):
+            yield from ((label, value) for value in values(b"", text))
+
+
+def answer(path, reader=Reader):
     """What a file states, or its refusal, by the reader of this module."""
     with open(path, "rb") as file:
-        text = file.read().removeprefix(b"\xef\xbb\xbf")
+        text = file.read()
     stem = os.path.basename(path).removesuffix(".bib").encode()
     try:
-        return b"".join(canonical(Reader(text).read(stem)))
+        return b"".join(canonical(reader(text).read(stem)))
     except Refused as refusal:
         return refusal.args
 
@@ -201,10 +397,10 @@ def knows_bib(folder):
     return done.stdout == b'object "k" in "b", "misc" {\n  "year" 1\n}\n'
 
 
-def compared(path):
+def compared(path, *options):
     """The number of entries of a file that the program read as the reader of this module, or its refusal, where both have the same."""
-    wanted = answer(path)
-    done = subprocess.run([STRUDEL, "data", os.path.basename(path)], cwd=os.path.dirname(path), capture_output=True)
+    wanted = answer(path, Lenient if options else Reader)
+    done = subprocess.run([STRUDEL, "data", *options, os.path.basename(path)], cwd=os.path.dirname(path), capture_output=True)
     if isinstance(wanted, bytes):
         if done.returncode != 0 or done.stdout != wanted:
             sys.exit(f"{path}: status {done.returncode}, {done.stderr.decode(errors='replace')}, not as the reader of bench/bibtex.py has it")
@@ -265,9 +461,10 @@ def bench_texlive(folder):
         subprocess.run(["apt-get", "download", "-q", *PACKAGES], cwd=folder, stdout=subprocess.DEVNULL, stderr=subprocess.DEVNULL, check=True)
         for package in glob.glob(f"{folder}/*.deb"):
             subprocess.run(["dpkg-deb", "-x", package, folder], check=True)
-    rows, refused, total, files = [], [], 0, 0
+    rows, refused, total, files, lenient = [], [], 0, 0, 0
     for path in sorted(glob.glob(f"{found}/usr/**/*.bib", recursive=True)):
         what, name = compared(path), os.path.basename(path)
+        lenient += isinstance(compared(path, "--lenient"), int)
         if isinstance(what, int):
             total, files = total + what, files + 1
         else:
@@ -276,5 +473,6 @@ def bench_texlive(folder):
             seconds, memory = measured([STRUDEL, "data", path], folder, 0 if isinstance(what, int) else 3)
             rows.append((f"data {name}, {os.path.getsize(path) / 2**20:.2f} MiB", seconds, memory, f"{what:,} entries" if isinstance(what, int) else f"refused: {what[0]} at {what[1]}"))
     rows.append((f"{files} files read whole", None, None, f"{total:,} entries"))
+    rows.append((f"{lenient} files read whole with --lenient", None, None, ""))
     rows += [("refused", None, None, it) for it in refused]
     return rows

@@ -21,6 +21,12 @@ def directed(count):
     yield f"object o in {', '.join(f'C{n}' for n in range(count))} {{ {' '.join(f'a{n} {chr(34)}{n}{chr(34)}' for n in range(count))} }}\n"
 
 
+def shared(count):
+    """One object in many collections, whose directives all give one attribute a kind, and as many values of it."""
+    yield from (f"collection C{n} {{ a url }}\n" for n in range(count))
+    yield f"object o in {', '.join(f'C{n}' for n in range(count))} {{ {' '.join(f'a {chr(34)}{n}{chr(34)}' for n in range(count))} }}\n"
+
+
 def listed(count):
     """A condition that lists as many constants as there are rows."""
     return 'INPUT D CREATE R() { WHERE P(x), x -> "v" -> v, not(v in {' + ", ".join(f'"s{n}"' for n in range(count)) + '}) LINK R() -> "x" -> v } OUTPUT S'
@@ -94,6 +100,7 @@ def bench_hurt(folder):
 
     rows += grown("a directive, and one object in {} collections by as many statements", (2_500, 10_000), data(collected))
     rows += grown("one object in {} collections with as many directives and values", (1_000, 4_000), data(directed))
+    rows += grown("one object in {} collections whose directives give one attribute a kind, and as many values of it", (1_000, 4_000), data(shared))
     rows += grown("`not(v in {{..}})` of {} constants over as many rows", (5_000, 20_000), rows_in)
     rows += grown("`lint` with {} labels and links", (2_500, 10_000), links(labelled))
     rows += grown("`lint` with {} functions and labels", (600, 6_000), links(functions))

@@ -70,7 +70,7 @@ explain_refusal() {
   elif [[ $place =~ ^[0-9]+$ ]]; then
     [ "$number" != 81 ] || told=$(expected "$file" "$place" "$told")
     over place "$file" at="$place" told="$told"
-    [ "$number" != 21 ] || explain_ending "$file"
+    case $number in 21 | 31) explain_ending "$file" ;; esac
   elif [[ $place =~ ^(row|column)\ ([0-9]+)$ ]]; then
     if [ "${BASH_REMATCH[1]}" = row ]; then
       over record "$file" record="${BASH_REMATCH[2]}" column=-1 told="$told" plain="$([ "$number" != 41 ] || echo 1)" lenient="$lenient"
@@ -95,7 +95,7 @@ explain_ending() {
   case $name in
     *.ddl | *.struql | *.tmpl | *.constraints) ;;
     *.CSV | *.JSON | *.BIB) echo "As data, a file that ends in .${name##*.} is read as a data text: --lenient takes the ending in capitals." ;;
-    *.*) echo "As data, a file that ends in .${name##*.} is read as a data text: CSV ends in .csv, JSON in .json, BibTeX in .bib, a database in .db or .sqlite." ;;
+    *.*) echo "As data, a file that ends in .${name##*.} is read as a data text: CSV ends in .csv, JSON in .json, BibTeX in .bib, a database in .db or .sqlite, a text in .md or .html." ;;
   esac
 }
 

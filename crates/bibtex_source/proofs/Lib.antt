@@ -5,3 +5,6 @@ pub mod Steps
 mod Cleared
 mod Spelled
 mod SpelledText
+mod Noted
+mod Gathered
+mod Marks

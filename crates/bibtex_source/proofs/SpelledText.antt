@@ -16,11 +16,13 @@ use Rattle.bibtex_laws.proofs.Items.{items_reader, text_reader}
 use Rattle.bibtex_laws.proofs.Whole.{is_first_fault, is_passed}
 use Rattle.bibtex_source.specs.declared.refusal.BibRefusal.{BibRefusal}
 use Rattle.bibtex_source.specs.declared.refusal.BibRefusal.TheVariants.{UnknownMacro, TooDeep, TooLarge}
-use Rattle.bibtex_source.specs.Text.{BibStep, macro_fault, limit_fault, items_steps, text_by, text_steps}
+use Rattle.bibtex_source.specs.Text.{BibStep, macro_fault, limit_fault, items_steps, text_by, text_steps, entries_within, entries_in}
+use Rattle.bibtex_source.specs.Source.{Source, source_of}
+use Rattle.sd_graph.specs.Stating.{fails}
 use Rattle.bibtex_source.specs.declared.rules.BibRules.{BibRules}
 use Rattle.bibtex_source.specs.Reads.{Reads}
-use Rattle.bibtex_source.specs.Spelled.{IsNameAt, IsFault, IsSteps, macros_after, AnswersAsSpelled}
-use Rattle.bibtex_source.proofs.Spelled.{IsEnd, IsWalked, junk_past, walk}
+use Rattle.bibtex_source.specs.Spelled.{IsNameAt, IsFault, IsSteps, phrases_steps, phrases_entries, macros_after, AnswersAsSpelled}
+use Rattle.bibtex_source.proofs.Spelled.{IsEnd, IsWalked, junk_past, junk_past_entries, walk}
 
 -- which limit it is, by what stands there
 
@@ -45,7 +47,10 @@ name_first macros word later rest whole is all e ends =
     let run_is : run is_name_byte rest ≡ word = ap (run is_name_byte) e ∙ (run_exact is_name_byte word later all ends).0 in
     letter_first macros word later rest whole is e ∙ ap (λ x. macro_fault (whole - length rest) (text_of macros x)) run_is
 
-module _ (rules : BibRules) (stem : Name) (first : MacroTexts) (bytes : List ℕ) where
+module _ (rules : BibRules) (stem : Name) (file : List ℕ) (first : MacroTexts) (bytes : List ℕ) where
+  abbrev source : Source
+  source = source_of rules file bytes (entries_in first bytes)
+
   abbrev before : List ℕ
   before = run is_junk bytes
 
@@ -79,12 +84,15 @@ module _ (rules : BibRules) (stem : Name) (first : MacroTexts) (bytes : List ℕ
   limit_is : (macros : MacroTexts) (rest : List ℕ) → text_reader first bytes ≡ Past rest → IsFault first macros bytes rest (limit_fault (length bytes) macros rest)
   limit_is macros rest h = let a = is_passed first bytes rest h in limit_by macros rest a.0 a.1 a.2 a.3
 
-  because : (macros : MacroTexts) (rest : List ℕ) (e : BibRefusal) → IsEnd rules stem (length bytes) macros (items_reader first (length before) marked) rest e → IsFault first macros bytes rest e
+  because : (macros : MacroTexts) (rest : List ℕ) (e : BibRefusal) → IsEnd source stem (length bytes) macros (items_reader first (length before) marked) rest e → IsFault first macros bytes rest e
   because macros rest e (inl h) = subst (IsFault first macros bytes rest) (sym h.1) (refl, is_first_fault first bytes rest (text_is ∙ h.0))
   because macros rest e (inr h) = subst (IsFault first macros bytes rest) (sym h.1) (limit_is macros rest (text_is ∙ h.0))
 
-  walked_text : (steps : List BibStep) → IsWalked rules stem (length bytes) first (length before) marked steps → IsSteps rules stem first bytes steps
-  walked_text steps (inl h) = inl (h.0, subst (λ x. text strict first x h.0) (sym (run_parts is_junk bytes)) (spelled marked h.0 h.1), h.2)
+  by_phrases : (phrases : List Phrase) → entries_in first bytes ≡ phrases_entries phrases → phrases_steps source stem phrases ≡ phrases_steps (source_of rules file bytes (phrases_entries phrases)) stem phrases
+  by_phrases phrases e = ap (λ entries. phrases_steps (source_of rules file bytes entries) stem phrases) e
+
+  walked_text : (steps : List BibStep) → IsWalked source stem (length bytes) first (length before) marked steps (entries_in first bytes) → IsSteps rules stem file first bytes steps
+  walked_text steps (inl h) = inl (h.0, subst (λ x. text strict first x h.0) (sym (run_parts is_junk bytes)) (spelled marked h.0 h.1), h.2 ∙ by_phrases h.0 h.3)
   walked_text steps (inr h) = inr (record {
     front = before ++ h.front;
     back = h.back;
@@ -94,15 +102,16 @@ module _ (rules : BibRules) (stem : Name) (first : MacroTexts) (bytes : List ℕ
     parts = run_parts is_junk bytes ∙ ap (λ x. before ++ x) h.parts ∙ sym (append_assoc before h.front h.back);
     spelled = spelled h.front h.phrases h.spelled;
     no_more = h.no_more;
-    steps_are = h.steps_are;
+    steps_are = h.steps_are ∙ ap (λ steps. steps ++ fails h.fault ∷ []) (by_phrases h.phrases h.entries_are);
     because = because (macros_after first h.phrases) h.rest h.fault h.ends;
   })
 
-  pub is_steps : IsSteps rules stem first bytes (items_steps rules stem first bytes)
+  pub is_steps : IsSteps rules stem file first bytes (items_steps source stem first bytes)
   is_steps =
-      walked_text (items_steps rules stem first bytes)
-      (subst (IsWalked rules stem (length bytes) first (length before) marked) (junk_past rules stem (length bytes) (length bytes) first bytes)
-      (walk rules stem (length bytes) (length bytes) first (length before) marked (omega (arith, parts)) parts (behind_stops is_junk bytes)))
+      walked_text (items_steps source stem first bytes)
+      (subst (λ entries. IsWalked source stem (length bytes) first (length before) marked (items_steps source stem first bytes) entries) (junk_past_entries source stem (length bytes) (length bytes) first bytes)
+      (subst (λ steps. IsWalked source stem (length bytes) first (length before) marked steps (entries_within (length bytes) first marked)) (junk_past source stem (length bytes) (length bytes) first bytes)
+      (walk source stem (length bytes) (length bytes) first (length before) marked (omega (arith, parts)) parts (behind_stops is_junk bytes))))
 
 pub tells : (rules : BibRules) (stem : Name) (bytes : List ℕ) (b c : Building) (result : Result ⊤ BibRefusal) → Reads rules stem bytes b c result → AnswersAsSpelled rules stem bytes b c result
-tells rules stem bytes b c result reads = (text_steps rules stem bytes, is_steps rules stem (months rules.names) (text_by rules bytes), reads)
+tells rules stem bytes b c result reads = (text_steps rules stem bytes, is_steps rules stem bytes (months rules.names) (text_by rules bytes), reads)

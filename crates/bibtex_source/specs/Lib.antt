@@ -1,6 +1,8 @@
 pub mod Gives
 pub mod Rules
 pub mod Readable
+pub mod Source
+pub mod Found
 pub mod Text
 pub mod Reads
 pub mod Spelled

@@ -6,6 +6,7 @@ use Rattle.grammar.specs.Reading.{starts}
 use Rattle.graph_spec.specs.DataGraph.{Name}
 use Rattle.sd_graph.specs.Statement.{Building}
 use Rattle.sd_graph.specs.Stating.{fails, Ends}
+use Rattle.bibtex_spec.specs.declared.Field.{Field}
 use Rattle.bibtex_spec.specs.Bytes.{is_letter, is_name_byte, is_junk}
 use Rattle.bibtex_spec.specs.Macros.{MacroTexts, text_of, months}
 use Rattle.bibtex_laws.specs.Grammar.{Phrase, Passing, Defining, Entering, strict, item, macros_behind, text}
@@ -14,17 +15,27 @@ use Rattle.bibtex_laws.specs.Faults.{IsFirstFault, IsPassedBy}
 use Rattle.bibtex_source.specs.declared.refusal.BibRefusal.{BibRefusal}
 use Rattle.bibtex_source.specs.declared.refusal.BibRefusal.TheVariants.{Expected, UnknownMacro, TooDeep, TooLarge, TooManyEdges, TooManyNodes, NoMemory}
 use Rattle.bibtex_source.specs.Text.{BibStep, entry_steps, text_by, bib_ending}
+use Rattle.bibtex_source.specs.Source.{Source, source_of}
 use Rattle.bibtex_source.specs.declared.rules.BibRules.{BibRules}
 
 -- an entry's statements; nothing else states any
-abbrev pub phrase_steps : BibRules → Name → Phrase → List BibStep
-phrase_steps rules stem Passing = []
-phrase_steps rules stem (Defining word found) = []
-phrase_steps rules stem (Entering at class key fields) =
-    entry_steps rules stem at (record { class = class; key = key; left = 0; fields = fields })
+abbrev pub phrase_steps : Source → Name → Phrase → List BibStep
+phrase_steps source stem Passing = []
+phrase_steps source stem (Defining word found) = []
+phrase_steps source stem (Entering at class key fields) =
+    entry_steps source stem at (record { class = class; key = key; left = 0; fields = fields })
 
-abbrev pub phrases_steps : BibRules → Name → List Phrase → List BibStep
-phrases_steps rules stem = flat_map (phrase_steps rules stem)
+abbrev pub phrases_steps : Source → Name → List Phrase → List BibStep
+phrases_steps source stem = flat_map (phrase_steps source stem)
+
+-- an entry's key and its fields
+abbrev pub phrase_entry : Phrase → List (Name × List Field)
+phrase_entry Passing = []
+phrase_entry (Defining word found) = []
+phrase_entry (Entering at class key fields) = (key, fields) ∷ []
+
+abbrev pub phrases_entries : List Phrase → List (Name × List Field)
+phrases_entries = flat_map phrase_entry
 
 -- the name, as it is written, with which `rest` begins and passes a limit
 abbrev pub IsNameAt : MacroTexts → List ℕ → List ℕ → List ℕ → Type 0
@@ -55,9 +66,9 @@ abbrev pub macros_after : MacroTexts → List Phrase → MacroTexts
 macros_after macros [] = macros
 macros_after macros (phrase ∷ phrases) = macros_after (macros_behind macros phrase) phrases
 
--- A text that is refused: its front spells these phrases, and they are stated before the fault. No further item stands
--- behind them, up to an `@` or the end of the text.
-pub record IsCutShort (rules : BibRules) (stem : Name) (first : MacroTexts) (bytes : List ℕ) (steps : List BibStep) : Type 0 where
+-- A text of this file that is refused: its front spells these phrases, and they are stated before the fault. No further
+-- item stands behind them, up to an `@` or the end of the text.
+pub record IsCutShort (rules : BibRules) (stem : Name) (file : List ℕ) (first : MacroTexts) (bytes : List ℕ) (steps : List BibStep) : Type 0 where
   pub front : List ℕ
   pub back : List ℕ
   pub phrases : List Phrase
@@ -68,17 +79,21 @@ pub record IsCutShort (rules : BibRules) (stem : Name) (first : MacroTexts) (byt
   pub no_more : (at : ℕ) (whole later : List ℕ) (phrase : Phrase) → back ≡ whole ++ later
       → starts is_junk later ≡ false
       → item (strict (macros_after first phrases)) at whole phrase → ⊥
-  pub steps_are : steps ≡ phrases_steps rules stem phrases ++ fails fault ∷ []
+  pub steps_are : steps
+      ≡ phrases_steps (source_of rules file bytes (phrases_entries phrases)) stem phrases
+      ++ fails fault ∷ []
   pub because : IsFault first (macros_after first phrases) bytes rest fault
 
--- The steps of a text with these macros at first: those of the phrases that it spells, or of those before its first fault.
-abbrev pub IsSteps : BibRules → Name → MacroTexts → List ℕ → List BibStep → Type 0
-IsSteps rules stem first bytes steps =
-    ((phrases : List Phrase) × text strict first bytes phrases × (steps ≡ phrases_steps rules stem phrases))
-    ⊎ IsCutShort rules stem first bytes steps
+-- The steps of a text of this file with these macros at first: those of the phrases that it spells, or of those before
+-- its first fault.
+abbrev pub IsSteps : BibRules → Name → (file : List ℕ) → MacroTexts → List ℕ → List BibStep → Type 0
+IsSteps rules stem file first bytes steps =
+    ((phrases : List Phrase) × text strict first bytes phrases
+    × (steps ≡ phrases_steps (source_of rules file bytes (phrases_entries phrases)) stem phrases))
+    ⊎ IsCutShort rules stem file first bytes steps
 
 -- The steps that the grammar gives of the text that is read by the rules are taken from b, lead to c, and end with this answer.
 abbrev pub AnswersAsSpelled : BibRules → Name → List ℕ → Building → Building → Result ⊤ BibRefusal → Type 0
 AnswersAsSpelled rules stem bytes b c result =
-    (steps : List BibStep) × IsSteps rules stem (months rules.names) (text_by rules bytes) steps
+    (steps : List BibStep) × IsSteps rules stem bytes (months rules.names) (text_by rules bytes) steps
     × Ends b steps c (bib_ending result)

@@ -1,7 +1,10 @@
 -- What a BibTeX text states of a data graph, step by step.
-use Rattle.std.specs.Prelude.{◌≡◌, ◌⊎◌, ◌-◌, ◌==◌, ℕ, zero, suc, false, List, [], ◌∷◌, ◌++◌, length, codes, nat_eq, if◌then◌else◌, Option, Some, None, Result, Ok, Err, ⊤}
+use Rattle.std.specs.Prelude.{◌≡◌, ◌⊎◌, ◌-◌, ◌==◌, ◌&&◌, ℕ, zero, suc, false, List, [], ◌∷◌, ◌++◌, length, codes, nat_eq, if◌then◌else◌, Option, Some, None, Result, Ok, Err, ⊤}
+use Rattle.std.specs.Str.{bytes_eq}
 use Rattle.grammar.specs.Reading.{Outcome, Read, Stuck, Past, starts}
 use Rattle.graph_spec.specs.DataGraph.{Name}
+use Rattle.sd_value.specs.declared.Datum.TheVariants.{Node}
+use Rattle.sd_value.specs.declared.Value.TheVariants.{Data}
 use Rattle.sd_graph.specs.Statement.{a_node, a_member, an_edge}
 use Rattle.sd_graph.specs.Stating.{Step, says, fails, Ending, done, fault, too_many_nodes, too_many_edges, no_memory}
 use Rattle.source_steps.specs.Fields.{value_of}
@@ -16,6 +19,7 @@ use Rattle.bibtex_spec.specs.Macros.{MacroTexts, text_of, with_macro, months}
 use Rattle.bibtex_spec.specs.Reading.{read_item}
 use Rattle.bibtex_spec.specs.Clear.{cleared}
 use Rattle.bibtex_source.specs.Readable.{field_texts, byline}
+use Rattle.bibtex_source.specs.Source.{Source, source_of, all_fields, own_bytes}
 use Rattle.bibtex_source.specs.declared.rules.BibRules.{BibRules}
 
 abbrev pub BibStep : Type 0
@@ -31,32 +35,50 @@ texts_steps at key label [] = []
 texts_steps at key label (text ∷ texts) =
     text_step at key label text ++ texts_steps at key label texts
 
-abbrev pub field_steps : BibRules → ℕ → Name → Field → List BibStep
-field_steps rules at key field =
-    texts_steps at key field.name (field_texts rules field.name field.text)
+-- the node of this name under a label, unless it is empty
+abbrev pub node_step : ℕ → Name → Name → Name → List BibStep
+node_step at key label name =
+    if length name == 0 then [] else says at (an_edge key label (Data (Node name))) ∷ []
 
-abbrev pub fields_steps : BibRules → ℕ → Name → List Field → List BibStep
-fields_steps rules at key [] = []
-fields_steps rules at key (field ∷ fields) =
-    field_steps rules at key field ++ fields_steps rules at key fields
+-- a field's texts; by the rules `crossref` is the entry that it names
+abbrev pub field_steps : Source → ℕ → Name → Field → List BibStep
+field_steps source at key field =
+    if source.rules.crossrefs && bytes_eq field.name (codes "crossref")
+    then node_step at key field.name field.text
+    else texts_steps at key field.name (field_texts source.rules field.name field.text)
+
+abbrev pub fields_steps : Source → ℕ → Name → List Field → List BibStep
+fields_steps source at key [] = []
+fields_steps source at key (field ∷ fields) =
+    field_steps source at key field ++ fields_steps source at key fields
 
 -- by the rules, the people of an entry in their order
-abbrev pub byline_steps : BibRules → ℕ → Name → List Field → List BibStep
-byline_steps rules at key fields =
-    if rules.bylines then text_step at key (codes "byline") (byline fields) else []
+abbrev pub byline_steps : Source → ℕ → Name → List Field → List BibStep
+byline_steps source at key fields =
+    if source.rules.bylines then text_step at key (codes "byline") (byline fields) else []
 
--- an entry: its node, a member of the file's collection and of its type's, its fields in this order, and its people
-abbrev pub entry_steps : BibRules → Name → ℕ → Entry → List BibStep
-entry_steps rules stem at entry =
+-- by the rules, the bytes of the entry
+abbrev pub bytes_steps : Source → ℕ → Name → List BibStep
+bytes_steps source at key =
+    if source.rules.bytes then text_step at key (codes "bibtex") (own_bytes source at) else []
+
+-- fields in this order, and the people that they name
+abbrev pub shown_steps : Source → ℕ → Name → List Field → List BibStep
+shown_steps source at key fields = fields_steps source at key fields ++ byline_steps source at key fields
+
+-- an entry: its node, a member of the file's collection and of its type's, its bytes, its fields with those that it
+-- lacks, and its people
+abbrev pub entry_steps : Source → Name → ℕ → Entry → List BibStep
+entry_steps source stem at entry =
     says at (a_node entry.key) ∷ says at (a_member stem entry.key)
     ∷ says at (a_member entry.class entry.key)
-    ∷ (fields_steps rules at entry.key entry.fields ++ byline_steps rules at entry.key entry.fields)
+    ∷ (bytes_steps source at entry.key ++ shown_steps source at entry.key (all_fields source entry.fields))
 
 -- what an item of a text of `whole` bytes states
-abbrev pub item_steps : BibRules → Name → ℕ → Item → List BibStep
-item_steps rules stem whole Passes = []
-item_steps rules stem whole (Defines name text) = []
-item_steps rules stem whole (Enters entry) = entry_steps rules stem (whole - entry.left) entry
+abbrev pub item_steps : Source → Name → ℕ → Item → List BibStep
+item_steps source stem whole Passes = []
+item_steps source stem whole (Defines name text) = []
+item_steps source stem whole (Enters entry) = entry_steps source stem (whole - entry.left) entry
 
 abbrev pub macros_behind : MacroTexts → Item → MacroTexts
 macros_behind macros Passes = macros
@@ -85,38 +107,69 @@ abbrev pub IsItemFault : ℕ → MacroTexts → Outcome ℕ Item → BibRefusal 
 IsItemFault whole macros read e = (e ≡ NoMemory) ⊎ IsFaultOf whole macros read e
 
 -- an item, and what is behind it; or its fault
-abbrev pub read_steps : BibRules → Name → ℕ → MacroTexts → (MacroTexts → List ℕ → List BibStep)
+abbrev pub read_steps : Source → Name → ℕ → MacroTexts → (MacroTexts → List ℕ → List BibStep)
     → Outcome ℕ Item → List BibStep
-read_steps rules stem whole macros later (Read item rest) =
-    item_steps rules stem whole item ++ later (macros_behind macros item) rest
-read_steps rules stem whole macros later (Stuck rest) = fails (Expected (whole - length rest)) ∷ []
-read_steps rules stem whole macros later (Past rest) = fails (limit_fault whole macros rest) ∷ []
+read_steps source stem whole macros later (Read item rest) =
+    item_steps source stem whole item ++ later (macros_behind macros item) rest
+read_steps source stem whole macros later (Stuck rest) = fails (Expected (whole - length rest)) ∷ []
+read_steps source stem whole macros later (Past rest) = fails (limit_fault whole macros rest) ∷ []
 
 -- from an `@` on
-abbrev pub marked_steps : BibRules → Name → ℕ → MacroTexts → (MacroTexts → List ℕ → List BibStep) → List ℕ
+abbrev pub marked_steps : Source → Name → ℕ → MacroTexts → (MacroTexts → List ℕ → List BibStep) → List ℕ
     → List BibStep
-marked_steps rules stem whole macros later [] = []
-marked_steps rules stem whole macros later (b ∷ bytes) =
-    read_steps rules stem whole macros later (read_item macros (b ∷ bytes))
+marked_steps source stem whole macros later [] = []
+marked_steps source stem whole macros later (b ∷ bytes) =
+    read_steps source stem whole macros later (read_item macros (b ∷ bytes))
 
 -- at most `turns` items, each behind bytes other than `@`
-abbrev pub steps_within : ℕ → BibRules → Name → ℕ → MacroTexts → List ℕ → List BibStep
-steps_within zero rules stem whole macros bytes = []
-steps_within (suc turns) rules stem whole macros bytes =
-    marked_steps rules stem whole macros (steps_within turns rules stem whole) (behind is_junk bytes)
+abbrev pub steps_within : ℕ → Source → Name → ℕ → MacroTexts → List ℕ → List BibStep
+steps_within zero source stem whole macros bytes = []
+steps_within (suc turns) source stem whole macros bytes =
+    marked_steps source stem whole macros (steps_within turns source stem whole) (behind is_junk bytes)
 
 -- all items, with these macros at first: there are at most as many as bytes
-abbrev pub items_steps : BibRules → Name → MacroTexts → List ℕ → List BibStep
-items_steps rules stem first bytes =
-    steps_within (length bytes) rules stem (length bytes) first bytes
+abbrev pub items_steps : Source → Name → MacroTexts → List ℕ → List BibStep
+items_steps source stem first bytes =
+    steps_within (length bytes) source stem (length bytes) first bytes
 
 -- the text that is read: by the rules, the bytes with blanks for what is passed over
 abbrev pub text_by : BibRules → List ℕ → List ℕ
 text_by rules bytes = if rules.comments then cleared bytes else bytes
 
+-- an entry's key and its fields
+abbrev pub entry_of : Item → List (Name × List Field)
+entry_of Passes = []
+entry_of (Defines name text) = []
+entry_of (Enters entry) = (entry.key, entry.fields) ∷ []
+
+-- the entries of a text up to its end or its first fault: those of an item, and of what comes after it
+abbrev pub read_entries : MacroTexts → (MacroTexts → List ℕ → List (Name × List Field))
+    → Outcome ℕ Item → List (Name × List Field)
+read_entries macros later (Read item rest) = entry_of item ++ later (macros_behind macros item) rest
+read_entries macros later (Stuck rest) = []
+read_entries macros later (Past rest) = []
+
+abbrev pub marked_entries : MacroTexts → (MacroTexts → List ℕ → List (Name × List Field)) → List ℕ
+    → List (Name × List Field)
+marked_entries macros later [] = []
+marked_entries macros later (b ∷ bytes) = read_entries macros later (read_item macros (b ∷ bytes))
+
+abbrev pub entries_within : ℕ → MacroTexts → List ℕ → List (Name × List Field)
+entries_within zero macros bytes = []
+entries_within (suc turns) macros bytes =
+    marked_entries macros (entries_within turns) (behind is_junk bytes)
+
+abbrev pub entries_in : MacroTexts → List ℕ → List (Name × List Field)
+entries_in first bytes = entries_within (length bytes) first bytes
+
+-- what a file is read by, of which this text is read
+abbrev pub source_in : BibRules → (file text : List ℕ) → Source
+source_in rules file text = source_of rules file text (entries_in (months rules.names) text)
+
 -- the items of the text that is read. A byte order mark is junk, and places count its bytes
 abbrev pub text_steps : BibRules → Name → List ℕ → List BibStep
-text_steps rules stem bytes = items_steps rules stem (months rules.names) (text_by rules bytes)
+text_steps rules stem bytes =
+    items_steps (source_in rules bytes (text_by rules bytes)) stem (months rules.names) (text_by rules bytes)
 
 abbrev pub bib_ending : Result ⊤ BibRefusal → Ending ℕ BibRefusal
 bib_ending (Ok u) = done

@@ -116,8 +116,8 @@ fn marked(alloc: Global, later: &[u8]) -> Result<(u8, Spot), NoMemory>
     }
 }
 
-// What stands for a byte, and where the next one is.
-fn passed(alloc: Global, spot: Spot, b: u8, later: &[u8]) -> Result<(u8, Spot), NoMemory>
+/// What stands for a byte, and where the next one is.
+pub(crate) fn passed(alloc: Global, spot: Spot, b: u8, later: &[u8]) -> Result<(u8, Spot), NoMemory>
     ensures { IfOk result (λ x. x ≡ specs.passed spot b later.now) }
 {
     match spot {

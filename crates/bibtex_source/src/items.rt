@@ -3,6 +3,7 @@ ghost use Rattle.std.specs.Prelude.{◌≡◌, ◌-◌, ◌<◌, IfOk, IfErr, On
 ghost use Rattle.grammar.specs.Reading.{Read};
 ghost use Rattle.sd_graph.specs.Stating.{Ends};
 ghost use Rattle.bibtex_source.specs.Text.{bib_ending, item_steps, items_steps, macros_behind, limit_fault, IsItemFault, macro_fault};
+ghost use Rattle.bibtex_source.specs.Source.{seen};
 ghost use Rattle.bibtex_spec.specs.Bytes as spec_bytes;
 ghost use Rattle.bibtex_spec.specs.Bytes.{run};
 ghost use Rattle.bibtex_spec.specs.Macros.{text_of};
@@ -12,7 +13,7 @@ use crate::halt::Halt;
 use crate::macros::Macros;
 use crate::reading::item_at;
 use crate::refusal::BibRefusal;
-use crate::rules::BibRules;
+use crate::source::Reading;
 use crate::statements::add_entry;
 use bibtex_bytes::{behind_junk, written_bytes};
 use bibtex_spec::Item;
@@ -80,14 +81,14 @@ fn next_item<'a>(
 // What an item of a text of `whole` bytes states or defines.
 fn add_item(
     alloc: Global,
-    rules: BibRules,
+    reading: &Reading,
     graph: &mut GraphBuilder,
     stem: &Str,
     whole: u64,
     macros: &mut Macros,
     item: Item,
 ) -> Result<(), BibRefusal>
-    ensures states { Ends graph.old (item_steps rules stem.now whole item) graph.new (bib_ending result) }
+    ensures states { Ends graph.old (item_steps (seen reading.now) stem.now whole item) graph.new (bib_ending result) }
     ensures defines { OnOk result (macros.new ≡ macros_behind macros.old item) }
 {
     match item {
@@ -95,7 +96,7 @@ fn add_item(
         Item::Defines(name, text) => Ok(macros.define(name, text)?),
         Item::Enters(entry) => {
             let at = whole.saturating_sub(entry.left);
-            add_entry(alloc, rules, graph, stem, at, &entry)
+            add_entry(alloc, reading, graph, stem, at, &entry)
         }
     }
 }
@@ -103,13 +104,13 @@ fn add_item(
 /// The items of a text.
 pub(crate) fn add_items(
     alloc: Global,
-    rules: BibRules,
+    reading: &Reading,
     graph: &mut GraphBuilder,
     stem: &Str,
     macros: Macros,
     bytes: &[u8],
 ) -> Result<(), BibRefusal>
-    ensures { Ends graph.old (items_steps rules stem.now macros bytes.now) graph.new (bib_ending result) }
+    ensures { Ends graph.old (items_steps (seen reading.now) stem.now macros bytes.now) graph.new (bib_ending result) }
 {
     let whole = bytes.len() as u64;
     let mut macros = macros;
@@ -120,7 +121,7 @@ pub(crate) fn add_items(
             return Ok(());
         }
         let (item, after) = next_item(alloc, whole, &macros, marked)?;
-        add_item(alloc, rules, graph, stem, whole, &mut macros, item)?;
+        add_item(alloc, reading, graph, stem, whole, &mut macros, item)?;
         rest = after;
     }
 }

@@ -4,23 +4,31 @@
 ghost use Rattle.std.specs.Prelude.{◌≡◌, List, ℕ, length};
 ghost use Rattle.bibtex_spec.specs.Clear.{cleared};
 ghost use Rattle.sd_graph.specs.Statement.{Building};
+ghost use Rattle.sd_graph.specs.Stating.{Ends};
+ghost use Rattle.bibtex_spec.specs.Macros.{months as month_macros};
+ghost use Rattle.bibtex_source.specs.Text.{items_steps, source_in, bib_ending};
 ghost use Rattle.bibtex_source.specs.Reads.{Reads, HasOneAnswer};
 ghost use Rattle.bibtex_source.specs.Spelled.{AnswersAsSpelled};
 ghost use Rattle.bibtex_source.specs.declared.rules.BibRules.{BibRules};
 
 mod clearing;
+mod entries;
 mod halt;
+mod inherited;
 mod items;
 mod macros;
+mod own;
 mod people;
 mod readable;
 mod reading;
 mod refusal;
 mod rules;
+mod source;
 mod statements;
 mod values;
 
 use clearing::clear;
+use entries::reading_of;
 use items::add_items;
 use macros::months;
 pub use refusal::BibRefusal;
@@ -28,6 +36,24 @@ pub use rules::BibRules;
 use sd_graph::GraphBuilder;
 use sd_value::Str;
 use std::alloc::Global;
+
+// The items of this text of a file.
+fn add_read(
+    alloc: Global,
+    rules: BibRules,
+    stem: &Str,
+    file: &[u8],
+    text: &[u8],
+    graph: &mut GraphBuilder,
+) -> Result<(), BibRefusal>
+    ensures { Ends graph.old
+        (items_steps (source_in rules file.now text.now) stem.now (month_macros rules.names) text.now)
+        graph.new (bib_ending result) }
+{
+    let reading = reading_of(alloc, rules, file, text)?;
+    let macros = months(alloc, rules.names)?;
+    add_items(alloc, &reading, graph, stem, macros, text)
+}
 
 // The items of the text that is read by the rules.
 fn add_text(
@@ -39,12 +65,11 @@ fn add_text(
 ) -> Result<(), BibRefusal>
     ensures { Reads rules stem.now bytes.now graph.old graph.new result }
 {
-    let macros = months(alloc, rules.names)?;
     if !rules.comments {
-        return add_items(alloc, rules, graph, stem, macros, bytes);
+        return add_read(alloc, rules, stem, bytes, bytes, graph);
     }
     let text = clear(alloc, bytes)?;
-    add_items(alloc, rules, graph, stem, macros, text.as_slice())
+    add_read(alloc, rules, stem, bytes, text.as_slice(), graph)
 }
 
 /// Adds what a BibTeX text states, read by the rules. Each entry is the node of its key, a member of STEM and of its

@@ -11,6 +11,10 @@ pub struct BibRules {
     pub readable: bool,
     /// An entry has an edge `byline` to its people in their order.
     pub bylines: bool,
+    /// An entry has an edge `bibtex` to its own bytes.
+    pub bytes: bool,
+    /// `crossref` is an edge to the entry that it names, of which an entry has the fields that it lacks.
+    pub crossrefs: bool,
 }
 
 impl BibRules {
@@ -20,6 +24,8 @@ impl BibRules {
         comments: false,
         readable: false,
         bylines: false,
+        bytes: false,
+        crossrefs: false,
     };
 
     /// Bibliographies as people have them.
@@ -28,5 +34,7 @@ impl BibRules {
         comments: true,
         readable: true,
         bylines: true,
+        bytes: true,
+        crossrefs: true,
     };
 }

@@ -56,7 +56,7 @@ page_row = record {
       ++ codes "  ADDRESS          the address of the page, from its first slash on\n"
       ++ codes "  DATA             a data file: data text, CSV, JSON or BibTeX\n"
       ++ codes "  --over FILE      a first query, whose site over the data files is the data\n"
-      ++ codes "  --lenient        reads CSV and JSON by the lenient rules\n";
+      ++ codes "  --lenient        reads CSV, JSON and BibTeX by the lenient rules\n";
 }
 
 -- the row of `build`
@@ -77,7 +77,7 @@ build_row = record {
       ++ codes "  DATA             a data file: data text, CSV, JSON or BibTeX\n"
       ++ codes "  --over FILE      a first query, whose site over the data files is the data\n"
       ++ codes "  --durable        waits for each file until it is on the disk\n"
-      ++ codes "  --lenient        reads CSV and JSON by the lenient rules\n";
+      ++ codes "  --lenient        reads CSV, JSON and BibTeX by the lenient rules\n";
 }
 
 -- the row of `data`
@@ -94,7 +94,7 @@ data_row = record {
       ++ codes "Prints the data as one data text.\n\n"
       ++ codes "  DATA             a data file: data text, CSV, JSON or BibTeX\n"
       ++ codes "  --over FILE      a first query, whose site over the data files is the data\n"
-      ++ codes "  --lenient        reads CSV and JSON by the lenient rules\n";
+      ++ codes "  --lenient        reads CSV, JSON and BibTeX by the lenient rules\n";
 }
 
 -- the row of `explain`
@@ -111,7 +111,7 @@ explain_row = record {
       ++ codes "Prints the plan of each block of the query over the data.\n\n"
       ++ codes "  QUERY            the file of the query\n"
       ++ codes "  DATA             a data file: data text, CSV, JSON or BibTeX\n"
-      ++ codes "  --lenient        reads CSV and JSON by the lenient rules\n";
+      ++ codes "  --lenient        reads CSV, JSON and BibTeX by the lenient rules\n";
 }
 
 -- the row of `schema`
@@ -149,7 +149,7 @@ check_row = record {
       ++ codes "  CONSTRAINTS      the file of the constraints\n"
       ++ codes "  DATA             a data file: data text, CSV, JSON or BibTeX\n"
       ++ codes "  --here           says that the constraints are tested over these data\n"
-      ++ codes "  --lenient        reads CSV and JSON by the lenient rules\n";
+      ++ codes "  --lenient        reads CSV, JSON and BibTeX by the lenient rules\n";
 }
 
 -- the row of `lint`
@@ -167,7 +167,7 @@ lint_row = record {
       ++ codes "  QUERY            the file of the query\n"
       ++ codes "  TEMPLATES        the file of the templates\n"
       ++ codes "  DATA             a data file: data text, CSV, JSON or BibTeX\n"
-      ++ codes "  --lenient        reads CSV and JSON by the lenient rules\n";
+      ++ codes "  --lenient        reads CSV, JSON and BibTeX by the lenient rules\n";
 }
 
 -- the row of `serve`
@@ -201,7 +201,7 @@ serve_row = record {
       ++ codes "  --log FILE       a file that a line of each reply is added to\n"
       ++ codes "  --over FILE      a first query, whose site over the data files is the data\n"
       ++ codes "  --whole          makes the whole site first and takes its pages from there\n"
-      ++ codes "  --lenient        reads CSV and JSON by the lenient rules\n";
+      ++ codes "  --lenient        reads CSV, JSON and BibTeX by the lenient rules\n";
 }
 
 -- the row of `replay`
@@ -226,7 +226,7 @@ replay_row = record {
       ++ codes "  --cache N        pages that are kept, 1 to 4096 (256)\n"
       ++ codes "  --cache-bytes N  bytes of the pages that are kept, 1 to 4294967296 (67108864)\n"
       ++ codes "  --over FILE      a first query, whose site over the data files is the data\n"
-      ++ codes "  --lenient        reads CSV and JSON by the lenient rules\n";
+      ++ codes "  --lenient        reads CSV, JSON and BibTeX by the lenient rules\n";
 }
 
 -- the row of `trial`

@@ -96,7 +96,7 @@ Prints the page of the site that has this address.\n\
 \x20 ADDRESS          the address of the page, from its first slash on\n\
 \x20 DATA             a data file: data text, CSV, JSON or BibTeX\n\
 \x20 --over FILE      a first query, whose site over the data files is the data\n\
-\x20 --lenient        reads CSV and JSON by the lenient rules\n",
+\x20 --lenient        reads CSV, JSON and BibTeX by the lenient rules\n",
 };
 
 const BUILD: CommandRow = CommandRow {
@@ -117,7 +117,7 @@ Writes every page of the site to its file, and prints how many there are.\n\
 \x20 DATA             a data file: data text, CSV, JSON or BibTeX\n\
 \x20 --over FILE      a first query, whose site over the data files is the data\n\
 \x20 --durable        waits for each file until it is on the disk\n\
-\x20 --lenient        reads CSV and JSON by the lenient rules\n",
+\x20 --lenient        reads CSV, JSON and BibTeX by the lenient rules\n",
 };
 
 const DATA: CommandRow = CommandRow {
@@ -134,7 +134,7 @@ Prints the data as one data text.\n\
 \n\
 \x20 DATA             a data file: data text, CSV, JSON or BibTeX\n\
 \x20 --over FILE      a first query, whose site over the data files is the data\n\
-\x20 --lenient        reads CSV and JSON by the lenient rules\n",
+\x20 --lenient        reads CSV, JSON and BibTeX by the lenient rules\n",
 };
 
 const EXPLAIN: CommandRow = CommandRow {
@@ -151,7 +151,7 @@ Prints the plan of each block of the query over the data.\n\
 \n\
 \x20 QUERY            the file of the query\n\
 \x20 DATA             a data file: data text, CSV, JSON or BibTeX\n\
-\x20 --lenient        reads CSV and JSON by the lenient rules\n",
+\x20 --lenient        reads CSV, JSON and BibTeX by the lenient rules\n",
 };
 
 const SCHEMA: CommandRow = CommandRow {
@@ -189,7 +189,7 @@ With --here: whether the site of these data meets it.\n\
 \x20 CONSTRAINTS      the file of the constraints\n\
 \x20 DATA             a data file: data text, CSV, JSON or BibTeX\n\
 \x20 --here           says that the constraints are tested over these data\n\
-\x20 --lenient        reads CSV and JSON by the lenient rules\n",
+\x20 --lenient        reads CSV, JSON and BibTeX by the lenient rules\n",
 };
 
 const LINT: CommandRow = CommandRow {
@@ -207,7 +207,7 @@ Prints likely mistakes in the query and the templates, each with its place.\n\
 \x20 QUERY            the file of the query\n\
 \x20 TEMPLATES        the file of the templates\n\
 \x20 DATA             a data file: data text, CSV, JSON or BibTeX\n\
-\x20 --lenient        reads CSV and JSON by the lenient rules\n",
+\x20 --lenient        reads CSV, JSON and BibTeX by the lenient rules\n",
 };
 
 const SERVE: CommandRow = CommandRow {
@@ -240,7 +240,7 @@ Serves the pages of the site on 127.0.0.1 over HTTP.\n\
 \x20 --log FILE       a file that a line of each reply is added to\n\
 \x20 --over FILE      a first query, whose site over the data files is the data\n\
 \x20 --whole          makes the whole site first and takes its pages from there\n\
-\x20 --lenient        reads CSV and JSON by the lenient rules\n",
+\x20 --lenient        reads CSV, JSON and BibTeX by the lenient rules\n",
 };
 
 const REPLAY: CommandRow = CommandRow {
@@ -265,7 +265,7 @@ Serves the pages of the site to the connections of a script, and prints the repl
 \x20 --cache N        pages that are kept, 1 to 4096 (256)\n\
 \x20 --cache-bytes N  bytes of the pages that are kept, 1 to 4294967296 (67108864)\n\
 \x20 --over FILE      a first query, whose site over the data files is the data\n\
-\x20 --lenient        reads CSV and JSON by the lenient rules\n",
+\x20 --lenient        reads CSV, JSON and BibTeX by the lenient rules\n",
 };
 
 const TRIAL: CommandRow = CommandRow {

@@ -1,5 +1,5 @@
 -- The tables, one part after another.
-use Rattle.std.proofs.Common.{◌≡◌, ◌⊎◌, refl, sym, ap, subst, ◌∙◌, inl, inr, Bool, true, false, ◌&&◌, cond, List, [], ◌∷◌, ◌++◌, if◌then◌else◌, Some, Contains, ℕ, Result, Ok, Err}
+use Rattle.std.proofs.Common.{◌≡◌, ◌⊎◌, refl, sym, ap, subst, ◌∙◌, inl, inr, Bool, true, false, ◌&&◌, cond, List, [], ◌∷◌, ◌++◌, if◌then◌else◌, Some, None, Contains, ℕ, Result, Ok, Err}
 use Rattle.std.specs.Result.{OnOk}
 use Rattle.std.specs.List.{flat_map, list_all, list_any}
 use Rattle.std.specs.Prelude.{◌||◌, length, nat_lt}
@@ -23,9 +23,10 @@ use Rattle.sd_ddl.specs.declared.part.Part.TheVariants.{Gives, Node, Member, Edg
 use Rattle.sd_ddl.specs.declared.kinds.StatedKinds.{StatedKinds}
 use Rattle.sd_ddl.specs.declared.kinds.StatedKinds.TheVariants.{Nothing, One, Several}
 use Rattle.sd_ddl.specs.declared.kinds.Kinds.{Kinds}
+use Rattle.sd_ddl.specs.declared.answers.Answers.{Answers}
 use Rattle.sd_ddl.specs.declared.collections.Collections.{Collections}
 use Rattle.sd_ddl.specs.Kinds.{Name, same_kind, same_name, given_by, given, collections, collection_by, giver_by, givers, kinds_of, told}
-use Rattle.sd_ddl.specs.Tables.{both, pair_cmp, or_nothing, told_in, told_within, names_of, insert_all, HasGivings, HasCollections, HasGivers, Knows, tell}
+use Rattle.sd_ddl.specs.Tables.{both, pair_cmp, or_nothing, told_in, told_within, names_of, insert_all, HasGivings, HasCollections, HasGivers, Knows, tell, answer_of, or_told, looked_up, told_of}
 use Rattle.sd_ddl.proofs.Told.{both-nothing, Tells, Tells-as, Tells-one, Tells-told, Tells-tell}
 
 eq_then : (p q : Ordering) → is_eq (ordering_then p q) ≡ (is_eq p && is_eq q)
@@ -59,6 +60,14 @@ told-added m n x y c a t k ex ey et up d b = by (same_name c d) (same_name a b) 
         ∙ (λ i. both (or_nothing (get pair_cmp m (same_name-is c d p i, same_name-is a b q i))) (One k))
     by true false p q = at ∙ (λ i. or_nothing (cond (p i && q i) (Some t) (get pair_cmp m (d, b)))) ∙ sym (both-nothing _)
     by false q p e = at ∙ (λ i. or_nothing (cond (p i && e i) (Some t) (get pair_cmp m (d, b)))) ∙ sym (both-nothing _)
+
+-- what is found in a table after one answer more
+pub answer-added : (m n : BTreeMap (List ℕ × List ℕ) StatedKinds) (k : List ℕ × List ℕ) (o a : Name) (t : StatedKinds) → k ≡ (o, a)
+    → ((q : List ℕ × List ℕ) → get pair_cmp n q ≡ cond (is_at (pair_cmp k) q) (Some t) (get pair_cmp m q))
+    → (p b : Name) → get pair_cmp n (p, b) ≡ (if same_name o p && same_name a b then Some t else get pair_cmp m (p, b))
+answer-added m n k o a t e up p b =
+    up (p, b) ∙ (λ i. cond (is_eq (pair_cmp (e i) (p, b))) (Some t) (get pair_cmp m (p, b)))
+    ∙ ap (λ here. cond here (Some t) (get pair_cmp m (p, b))) (eq_then (bytes_cmp o p) (bytes_cmp a b))
 
 pub insert_all-more : (names ns : List Name) (here : Bool) (n : Name)
     → insert_all names (ns ++ ((if here then n ∷ [] else []) ++ [])) ≡ (if here then insert_key bytes_cmp (insert_all names ns) n else insert_all names ns)
@@ -108,11 +117,42 @@ told_none (k ∷ ks) h = by (list_all (same_kind k) ks) h
     by true h = cc
     by false h = cc
 
+-- what the tables tell where nothing was looked up before
+pub anew : (kinds : Kinds) → ((o a : Name) → answer_of kinds.answers o a ≡ None) → (o a : Name) → told_of kinds o a ≡ looked_up kinds o a
+anew kinds fresh o a = ap (λ found. or_told found (looked_up kinds o a)) (fresh o a)
+
+-- an answer that is kept tells what is told without it
+answer_kept : (old new : Kinds) (object attribute : Name) (t : StatedKinds) → t ≡ looked_up old object attribute
+    → ((o a : Name) → looked_up new o a ≡ looked_up old o a)
+    → ((o a : Name) → answer_of new.answers o a ≡ (if same_name object o && same_name attribute a then Some t else answer_of old.answers o a))
+    → answer_of old.answers object attribute ≡ None
+    → (o a : Name) → told_of new o a ≡ told_of old o a
+answer_kept old new object attribute t is same kept fresh o a =
+    (λ i. or_told (kept o a i) (same o a i)) ∙ by (same_name object o) (same_name attribute a) refl refl
+  where
+    here : object ≡ o → attribute ≡ a → t ≡ told_of old o a
+    here e f = is ∙ ap (λ found. or_told found (looked_up old object attribute)) (sym fresh) ∙ (λ i. told_of old (e i) (f i))
+
+    by : (p q : Bool) → same_name object o ≡ p → same_name attribute a ≡ q
+        → or_told (if p && q then Some t else answer_of old.answers o a) (looked_up old o a) ≡ told_of old o a
+    by true true p q = here (same_name-is object o p) (same_name-is attribute a q)
+    by true false p q = refl
+    by false q p e = refl
+
+pub answer_kept-ok : (old new : Kinds) (object attribute : Name) (t : StatedKinds) (r : Result (Unit {0}) NoMemory) → t ≡ looked_up old object attribute
+    → ((o a : Name) → looked_up new o a ≡ looked_up old o a) → answer_of old.answers object attribute ≡ None
+    → OnOk r ((o a : Name) → answer_of new.answers o a ≡ (if same_name object o && same_name attribute a then Some t else answer_of old.answers o a))
+    → OnOk r ((o a : Name) → told_of new o a ≡ told_of old o a)
+answer_kept-ok old new object attribute t (Ok u) is same fresh kept = answer_kept old new object attribute t is same kept fresh
+answer_kept-ok old new object attribute t (Err e) is same fresh kept = tt
+
 -- where no kind is given and no collection is told, nothing is told
 pub known_none : (parts : List Part) (kinds : Kinds) → HasGivings parts kinds.givings → ((c a : Name) → told_in kinds.givings c a ≡ Nothing)
-    → ((a : Name) → names_of kinds.givers a ≡ []) → ((o : Name) → names_of kinds.collections o ≡ []) → Knows parts kinds
-known_none parts kinds has none barren bare o a =
-    (λ i. if nat_lt (length (barren a i)) (length (bare o i)) then tell (told_within kinds.givings (bare o i) a) Nothing (barren a i) else tell (λ c. told_in kinds.givings c a) Nothing (bare o i))
+    → ((a : Name) → names_of kinds.givers a ≡ []) → ((o : Name) → names_of kinds.collections o ≡ [])
+    → ((o a : Name) → answer_of kinds.answers o a ≡ None) → Knows parts kinds
+known_none parts kinds has none barren bare fresh o a =
+    anew kinds fresh o a
+    ∙ (λ i. if nat_lt (length (barren a i)) (length (bare o i)) then tell (told_within kinds.givings (bare o i) a) Nothing (barren a i) else tell (λ c. told_in kinds.givings c a) Nothing (bare o i))
     ∙ sym (ap told (all_none (collections parts o)))
   where
     all_none : (ns : List Name) → flat_map (λ c. given parts c a) ns ≡ []
@@ -214,8 +254,9 @@ module _ (parts : List Part) (kinds : Kinds) (has_givings : HasGivings parts kin
       by true = told-by_givers
       by false = told-by_names
 
-pub told-known : (parts : List Part) (kinds : Kinds) → HasGivings parts kinds.givings → HasGivers parts kinds.givers → HasCollections parts kinds.collections → Knows parts kinds
-told-known parts kinds has_givings has_givers has_collections o a = told-either parts kinds has_givings o a (names_of kinds.collections o) (names_of kinds.givers a) (has_collections o) (has_givers a)
+pub told-known : (parts : List Part) (kinds : Kinds) → HasGivings parts kinds.givings → HasGivers parts kinds.givers → HasCollections parts kinds.collections
+    → ((o a : Name) → answer_of kinds.answers o a ≡ None) → Knows parts kinds
+told-known parts kinds has_givings has_givers has_collections fresh o a = anew kinds fresh o a ∙ told-either parts kinds has_givings o a (names_of kinds.collections o) (names_of kinds.givers a) (has_collections o) (has_givers a)
 
 pub collections-member : (c : Word) (object : Name) (old new : Collections) (r : Result (Unit {0}) NoMemory)
     → OnOk r (names_of new object ≡ insert_key bytes_cmp (names_of old object) c.text)

@@ -14,6 +14,7 @@ use Rattle.sd_ddl.specs.declared.kinds.StatedKinds.{StatedKinds}
 use Rattle.sd_ddl.specs.declared.kinds.StatedKinds.TheVariants.{Nothing, One, Several}
 use Rattle.sd_ddl.specs.declared.kinds.Givings.{Givings}
 use Rattle.sd_ddl.specs.declared.kinds.Kinds.{Kinds}
+use Rattle.sd_ddl.specs.declared.answers.Answers.{Answers}
 use Rattle.sd_ddl.specs.declared.collections.Collections.{Collections}
 use Rattle.sd_ddl.specs.Kinds.{Name, same_name, same_kind, given, givers, collections, kinds_of, told}
 
@@ -75,15 +76,28 @@ abbrev pub told_within : Givings → List Name → Name → Name → StatedKinds
 told_within givings names attribute collection =
     if list_any (same_name collection) names then told_in givings collection attribute else Nothing
 
+-- what was looked up before
+abbrev pub answer_of : Answers → Name → Name → Option StatedKinds
+answer_of answers object attribute = get pair_cmp answers.told (object, attribute)
+
 -- what the collections of an object tell an attribute: it is asked of the object's, or, where these are
 -- fewer, of those that give the attribute a kind
-abbrev pub told_of : Kinds → Name → Name → StatedKinds
-told_of kinds object attribute =
+abbrev pub looked_up : Kinds → Name → Name → StatedKinds
+looked_up kinds object attribute =
     let names = names_of kinds.collections object in
     let found = names_of kinds.givers attribute in
     if nat_lt (length found) (length names)
     then tell (told_within kinds.givings names attribute) Nothing found
     else tell (λ c. told_in kinds.givings c attribute) Nothing names
+
+abbrev pub or_told : Option StatedKinds → StatedKinds → StatedKinds
+or_told (Some t) anew = t
+or_told None anew = anew
+
+-- the same, looked up before or now
+abbrev pub told_of : Kinds → Name → Name → StatedKinds
+told_of kinds object attribute =
+    or_told (answer_of kinds.answers object attribute) (looked_up kinds object attribute)
 
 -- the tables report of each object's attributes what these parts report
 abbrev pub Knows : List Part → Kinds → Type 0

@@ -4,9 +4,10 @@ ghost use Rattle.sd_ddl.specs.declared.part.Part.{Part as AnyPart};
 ghost use Rattle.sd_ddl.specs.declared.part.Part.TheVariants.{Gives};
 ghost use Rattle.sd_ddl.specs.declared.kinds.StatedKinds.TheVariants.{Nothing as NothingTold, One as OneTold};
 ghost use Rattle.sd_ddl.specs.Kinds.{Name, given_by, told};
-ghost use Rattle.sd_ddl.specs.Tables.{told_in, told_within, told_of, both, is_several, tell, HasGivings, HasCollections, HasGivers};
-ghost use Rattle.sd_ddl.specs.Tables.{Knows, names_of, is_conflict};
+ghost use Rattle.sd_ddl.specs.Tables.{told_in, told_within, looked_up, told_of, both, is_several, tell};
+ghost use Rattle.sd_ddl.specs.Tables.{HasGivings, HasCollections, HasGivers, Knows, names_of, is_conflict};
 
+use crate::answers::Answers;
 use crate::collections::Collections;
 use crate::part::{Giving, Part};
 use ddl_text::{Content, Kind};
@@ -44,7 +45,12 @@ impl StatedKinds {
     }
 }
 
-fn key_of(alloc: Global, collection: &Str, attribute: &Str) -> Result<(Str, Str), NoMemory>
+/// Two names as a key of a table.
+pub(crate) fn key_of(
+    alloc: Global,
+    collection: &Str,
+    attribute: &Str,
+) -> Result<(Str, Str), NoMemory>
     ensures { IfOk result (λ key. key ≡ (collection.now, attribute.now)) }
 {
     Ok((collection.copy(alloc)?, attribute.copy(alloc)?))
@@ -127,6 +133,9 @@ impl Givings {
     }
 }
 
+// So many collections are asked anew each time.
+const FEW: usize = 8;
+
 /// The kinds and the collections that a text reports.
 #[derive(Drop)]
 pub(crate) struct Kinds {
@@ -135,6 +144,8 @@ pub(crate) struct Kinds {
     givers: Collections,
     /// By object.
     collections: Collections,
+    /// What is looked up in many collections is looked up once.
+    answers: Answers,
 }
 
 impl Kinds {
@@ -151,15 +162,74 @@ impl Kinds {
                 givings,
                 givers,
                 collections,
+                answers: Answers::new(alloc),
             });
         }
+        let mut kinds = Kinds::by_tables(alloc, parts, givings)?;
+        kinds.answer_parts(alloc, parts)?;
+        Ok(kinds)
+    }
+
+    // The tables of these parts, whose kinds these are.
+    fn by_tables(alloc: Global, parts: &[Part], givings: Givings) -> Result<Kinds, NoMemory>
+        requires { HasGivings parts.now givings }
+        ensures { IfOk result (λ kinds. Knows parts.now kinds) }
+    {
         let givers = givers_of(alloc, parts)?;
         let collections = collections_of(alloc, parts)?;
         Ok(Kinds {
             givings,
             givers,
             collections,
+            answers: Answers::new(alloc),
         })
+    }
+
+    // Whether the object has many collections, and many give the attribute a kind.
+    fn is_long(&self, object: &Str, attribute: &Str) -> bool {
+        match (self.collections.names(object), self.givers.names(attribute)) {
+            (Some(names), Some(givers)) => names.len() > FEW && givers.len() > FEW,
+            (_, _) => false,
+        }
+    }
+
+    // Keeps what is told of an object's attribute, if that is long to look up.
+    fn answer(&mut self, alloc: Global, object: &Str, attribute: &Str) -> Result<(), NoMemory>
+        ensures { OnOk result
+            ((o a : Name) → told_of self.new o a ≡ told_of self.old o a) }
+    {
+        if !self.is_long(object, attribute) {
+            return Ok(());
+        }
+        match self.answers.get(alloc, object, attribute)? {
+            Some(_) => Ok(()),
+            None => {
+                let told = self.look_up(alloc, object, attribute)?;
+                self.answers.add(alloc, object, attribute, told)
+            }
+        }
+    }
+
+    // Keeps what is long to look up for a part.
+    fn answer_part(&mut self, alloc: Global, part: &Part) -> Result<(), NoMemory>
+        ensures { OnOk result
+            ((o a : Name) → told_of self.new o a ≡ told_of self.old o a) }
+    {
+        match part {
+            Part::Edge(object, attribute, _) => self.answer(alloc, object, attribute),
+            Part::Gives(_) | Part::Node(_) | Part::Member(_, _) => Ok(()),
+        }
+    }
+
+    // Keeps what is long to look up for these parts.
+    fn answer_parts(&mut self, alloc: Global, parts: &[Part]) -> Result<(), NoMemory>
+        ensures { OnOk result
+            ((o a : Name) → told_of self.new o a ≡ told_of self.old o a) }
+    {
+        for part in parts {
+            self.answer_part(alloc, part)?;
+        }
+        Ok(())
     }
 
     // The kinds that directives of these collections give the attribute.
@@ -224,6 +294,16 @@ impl Kinds {
         attribute: &Str,
     ) -> Result<StatedKinds, NoMemory>
         ensures { IfOk result (λ t. t ≡ told_of self.now object.now attribute.now) }
+    {
+        match self.answers.get(alloc, object, attribute)? {
+            Some(told) => Ok(told),
+            None => self.look_up(alloc, object, attribute),
+        }
+    }
+
+    // The same, by the collections of the object or those that give the attribute a kind.
+    fn look_up(&self, alloc: Global, object: &Str, attribute: &Str) -> Result<StatedKinds, NoMemory>
+        ensures { IfOk result (λ t. t ≡ looked_up self.now object.now attribute.now) }
     {
         let Some(names) = self.collections.names(object) else {
             return Ok(StatedKinds::Nothing);

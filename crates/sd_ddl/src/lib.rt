@@ -1,6 +1,7 @@
 //! Data texts read into a graph, and a graph written as one data text.
 #![tactic(auto)]
 
+mod answers;
 mod collections;
 mod conflict;
 mod groups;

@@ -13,6 +13,12 @@ const PASSING: BibRules = BibRules {
     ..BibRules::STRICT
 };
 
+// All but an entry's own bytes.
+const SHOWN: BibRules = BibRules {
+    bytes: false,
+    ..BibRules::LENIENT
+};
+
 // A text, how it is read, why it is refused, and the data text of what is stated.
 struct Row {
     text: &'static [u8],
@@ -113,20 +119,20 @@ const ROWS: &[Row] = &[
 const READABLE: &[Row] = &[
     Row {
         text: b"@misc{k, title = {G{\\\"o}del, {\\'E}mile, Fran{\\c{c}}ois, Stra{\\ss}e, {\\O}re, \\aa, \\~n, \\v{s}}}",
-        rules: BibRules::LENIENT,
+        rules: SHOWN,
         graph: b"object \"k\" in \"b\", \"misc\" {\n  \"title\" \"G\xc3\xb6del, \xc3\x89mile, Fran\xc3\xa7ois, Stra\xc3\x9fe, \
             \xc3\x98re, \xc3\xa5, \xc3\xb1, \xc5\xa1\"\n}\n",
         ..ROW
     },
     Row {
         text: b"@misc{k, title = \"a -- b --- c \\& 50\\% ``q'' {Keep} Case\"}",
-        rules: BibRules::LENIENT,
+        rules: SHOWN,
         graph: b"object \"k\" in \"b\", \"misc\" {\n  \"title\" \"a \xe2\x80\x93 b \xe2\x80\x94 c & 50% \xe2\x80\x9cq\xe2\x80\x9d Keep Case\"\n}\n",
         ..ROW
     },
     Row {
         text: b"@article{k, author = {G{\\\"o}del, Kurt and Ada Lovelace and Knuth, Donald E.}, month = mar, journal = jacm}",
-        rules: BibRules::LENIENT,
+        rules: SHOWN,
         graph: b"object \"k\" in \"article\", \"b\" {\n  \"author\" \"Ada Lovelace\"\n  \"author\" \"G\xc3\xb6del, Kurt\"\n  \
             \"author\" \"Knuth, Donald E.\"\n  \"byline\" \"Kurt G\xc3\xb6del, Ada Lovelace and Donald E. Knuth\"\n  \
             \"journal\" \"jacm\"\n  \"month\" 3\n}\n",
@@ -134,19 +140,19 @@ const READABLE: &[Row] = &[
     },
     Row {
         text: b"@book{k, editor = \"A B and C D\"}",
-        rules: BibRules::LENIENT,
+        rules: SHOWN,
         graph: b"object \"k\" in \"b\", \"book\" {\n  \"byline\" \"A B and C D\"\n  \"editor\" \"A B\"\n  \"editor\" \"C D\"\n}\n",
         ..ROW
     },
     Row {
         text: b"@misc{k, title = {\\emph{x} \\LaTeX y \\url{u} \\textbf {z}}}",
-        rules: BibRules::LENIENT,
+        rules: SHOWN,
         graph: b"object \"k\" in \"b\", \"misc\" {\n  \"title\" \"x LaTeX y u textbf z\"\n}\n",
         ..ROW
     },
     Row {
         text: b"@a{k1, month = {March}} @a{k2, month = {Sep.}} @a{k3, month = 7} @a{k4, month = {Sept}} @a{k5, month = \"1 May\"}",
-        rules: BibRules::LENIENT,
+        rules: SHOWN,
         graph: b"object \"k1\" in \"a\", \"b\" {\n  \"month\" 3\n}\nobject \"k2\" in \"a\", \"b\" {\n  \"month\" 9\n}\n\
             object \"k3\" in \"a\", \"b\" {\n  \"month\" 7\n}\nobject \"k4\" in \"a\", \"b\" {\n  \"month\" \"Sept\"\n}\n\
             object \"k5\" in \"a\", \"b\" {\n  \"month\" \"1 May\"\n}\n",
@@ -154,14 +160,14 @@ const READABLE: &[Row] = &[
     },
     Row {
         text: b"@book{k, author = {von der X, Y and Last, Jr, First}}",
-        rules: BibRules::LENIENT,
+        rules: SHOWN,
         graph: b"object \"k\" in \"b\", \"book\" {\n  \"author\" \"Last, Jr, First\"\n  \"author\" \"von der X, Y\"\n  \
             \"byline\" \"Y von der X and First Last Jr\"\n}\n",
         ..ROW
     },
     Row {
         text: b"@book{k, author = {Knuth, Donald E.}, editor = {A B}}",
-        rules: BibRules::LENIENT,
+        rules: SHOWN,
         graph: b"object \"k\" in \"b\", \"book\" {\n  \"author\" \"Knuth, Donald E.\"\n  \"byline\" \"Donald E. Knuth\"\n  \
             \"editor\" \"A B\"\n}\n",
         ..ROW
@@ -169,7 +175,7 @@ const READABLE: &[Row] = &[
     // A group's name is one, and others are et al.
     Row {
         text: b"@a{k, author = {{Group, of and} and Bo, A and others}}",
-        rules: BibRules::LENIENT,
+        rules: SHOWN,
         graph: b"object \"k\" in \"a\", \"b\" {\n  \"author\" \"Bo, A\"\n  \"author\" \"Group, of and\"\n  \"author\" \
             \"others\"\n  \"byline\" \"Group, of and, A Bo et al.\"\n}\n",
         ..ROW
@@ -177,9 +183,83 @@ const READABLE: &[Row] = &[
     // The nearer of two accents comes first, dotless letters, blanks behind a letter's name, a sign over nothing.
     Row {
         text: b"@a{k, t = {Vi\\d{\\^e}t, na\\\"\\i ve, \\'{\\i}, \\ae sir, \\^ o, \\~{}me, \\c c\\k a\\H{o}\\r u\\=a\\.z, \\i}}",
-        rules: BibRules::LENIENT,
+        rules: SHOWN,
         graph: b"object \"k\" in \"a\", \"b\" {\n  \"t\" \"Vi\xe1\xbb\x87t, na\xc3\xafve, \xc3\xad, \xc3\xa6sir, \xc3\xb4, ~me, \
             \xc3\xa7\xc4\x85\xc5\x91\xc5\xaf\xc4\x81\xc5\xbc, \xc4\xb1\"\n}\n",
+        ..ROW
+    },
+];
+
+// Entries with their own bytes, and with what they lack of those that they name.
+const WHOLE: &[Row] = &[
+    Row {
+        text: b"@inproceedings{a, title = {T}, crossref = {p}} @proceedings{p, title = {P}, year = 1999}",
+        rules: BibRules::LENIENT,
+        graph: b"object \"a\" in \"b\", \"inproceedings\" {\n  \"bibtex\" \"@inproceedings{a, title = {T}, crossref = {p}}\"\n  \
+            \"crossref\" &\"p\"\n  \"title\" \"T\"\n  \"year\" 1999\n}\nobject \"p\" in \"b\", \"proceedings\" {\n  \
+            \"bibtex\" \"@proceedings{p, title = {P}, year = 1999}\"\n  \"title\" \"P\"\n  \"year\" 1999\n}\n",
+        ..ROW
+    },
+    // Through another, what is lacking alone, and of the first entry of the key.
+    Row {
+        text: b"@a{a, crossref = {b}, year = 1} @a{b, crossref = {c}, year = 2, note = {n}} \
+            @a{c, year = 3, publisher = {P}, author = {A B}} @a{c, isbn = 5}",
+        rules: BibRules::LENIENT,
+        graph: b"object \"a\" in \"a\", \"b\" {\n  \"author\" \"A B\"\n  \"bibtex\" \"@a{a, crossref = {b}, year = 1}\"\n  \
+            \"byline\" \"A B\"\n  \"crossref\" &\"b\"\n  \"note\" \"n\"\n  \"publisher\" \"P\"\n  \"year\" 1\n}\n\
+            object \"b\" in \"a\", \"b\" {\n  \"author\" \"A B\"\n  \
+            \"bibtex\" \"@a{b, crossref = {c}, year = 2, note = {n}}\"\n  \
+            \"byline\" \"A B\"\n  \"crossref\" &\"c\"\n  \"note\" \"n\"\n  \"publisher\" \"P\"\n  \"year\" 2\n}\n\
+            object \"c\" in \"a\", \"b\" {\n  \"author\" \"A B\"\n  \"bibtex\" \"@a{c, isbn = 5}\"\n  \
+            \"bibtex\" \"@a{c, year = 3, publisher = {P}, author = {A B}}\"\n  \"byline\" \"A B\"\n  \"isbn\" 5\n  \
+            \"publisher\" \"P\"\n  \"year\" 3\n}\n",
+        ..ROW
+    },
+    // In a circle.
+    Row {
+        text: b"@a{a, crossref = {b}, year = 1} @a{b, crossref = {a}, note = {n}}",
+        rules: BibRules::LENIENT,
+        graph: b"object \"a\" in \"a\", \"b\" {\n  \"bibtex\" \"@a{a, crossref = {b}, year = 1}\"\n  \"crossref\" &\"b\"\n  \
+            \"note\" \"n\"\n  \"year\" 1\n}\nobject \"b\" in \"a\", \"b\" {\n  \
+            \"bibtex\" \"@a{b, crossref = {a}, note = {n}}\"\n  \"crossref\" &\"a\"\n  \"note\" \"n\"\n  \"year\" 1\n}\n",
+        ..ROW
+    },
+    // A key that no entry has is a node, and an empty one is none.
+    Row {
+        text: b"@a{k, crossref = {z}} @a{l, crossref = {}, n = 1}",
+        rules: BibRules::LENIENT,
+        graph: b"object \"k\" in \"a\", \"b\" {\n  \"bibtex\" \"@a{k, crossref = {z}}\"\n  \"crossref\" &\"z\"\n}\n\
+            object \"l\" in \"a\", \"b\" {\n  \"bibtex\" \"@a{l, crossref = {}, n = 1}\"\n  \"n\" 1\n}\nobject \"z\" {\n}\n",
+        ..ROW
+    },
+    // Its own bytes: comments as they are, up to the byte that closes it, in braces or in parentheses.
+    Row {
+        text: b"me@x.org\n@misc{k, % note\n note = {50 % kept}, % c }\n year = 1999} @ }",
+        rules: BibRules::LENIENT,
+        graph: b"object \"k\" in \"b\", \"misc\" {\n  \
+            \"bibtex\" \"@misc{k, % note\\n note = {50 % kept}, % c }\\n year = 1999}\"\n  \
+            \"note\" \"50 % kept\"\n  \"year\" 1999\n}\n",
+        ..ROW
+    },
+    Row {
+        text: b"\xef\xbb\xbf@ misc (% a@b\n k, n = {)} # \"x\") ) @string{s = 1}",
+        rules: BibRules::LENIENT,
+        graph: b"object \"k\" in \"b\", \"misc\" {\n  \"bibtex\" \"@ misc (% a@b\\n k, n = {)} # \\\"x\\\")\"\n  \"n\" \")x\"\n}\n",
+        ..ROW
+    },
+    // What is before a fault is told of with what was read up to it.
+    Row {
+        text: b"@a{k, crossref = {l}} @a{l, n = 1} @a{m, o}",
+        rules: BibRules::LENIENT,
+        refusal: Some(BibRefusal::Expected(42)),
+        graph: b"object \"k\" in \"a\", \"b\" {\n  \"bibtex\" \"@a{k, crossref = {l}}\"\n  \"crossref\" &\"l\"\n  \"n\" 1\n}\n\
+            object \"l\" in \"a\", \"b\" {\n  \"bibtex\" \"@a{l, n = 1}\"\n  \"n\" 1\n}\n",
+    },
+    // Strictly it is a field like any other.
+    Row {
+        text: b"@a{k, crossref = {l}} @a{l, n = 1}",
+        rules: BibRules::STRICT,
+        graph: b"object \"k\" in \"a\", \"b\" {\n  \"crossref\" \"l\"\n}\nobject \"l\" in \"a\", \"b\" {\n  \"n\" 1\n}\n",
         ..ROW
     },
 ];
@@ -206,6 +286,14 @@ fn each_text_is_read_as_its_row_says(rt: HostRuntime) -> Result<(), Fail> {
 #[test]
 fn each_text_is_shown_as_its_row_says(rt: HostRuntime) -> Result<(), Fail> {
     for row in READABLE {
+        check_row(rt.alloc(), row)?;
+    }
+    Ok(())
+}
+
+#[test]
+fn each_text_is_whole_as_its_row_says(rt: HostRuntime) -> Result<(), Fail> {
+    for row in WHOLE {
         check_row(rt.alloc(), row)?;
     }
     Ok(())
