@@ -1,13 +1,13 @@
 // Files for which the program is out of memory.
 use crate::runs::{PLAIN, Run, check_over};
-use edge_io::{Failed, Files, ReadEnd};
+use edge_io::{Failed, Files, ReadEnd, Removal, Stored};
 use happenings::Log;
 use sd_value::Str;
 use std::alloc::Global;
 use std::mem::swap;
 use std::test::Fail;
 
-/// Files of which each read is refused its memory, and each write is taken and forgotten.
+/// Files of which each read is refused its memory, and each write and removal is taken and forgotten.
 #[derive(Drop)]
 struct Refusing {
     log: Log,
@@ -35,9 +35,18 @@ impl Files for Refusing {
         Err(ReadEnd::NoMemory)
     }
 
-    fn write(&mut self, path: &Str, bytes: &[u8]) -> Result<(), Failed> {
+    fn is_there(&self, _path: &Str) -> bool {
+        false
+    }
+
+    fn write(&mut self, path: &Str, bytes: &[u8]) -> Result<Stored, Failed> {
         self.log.wrote(path.bytes(), bytes);
-        Ok(())
+        Ok(Stored::Written)
+    }
+
+    fn remove(&mut self, _folder: &Str, path: &Str) -> Result<Removal, Failed> {
+        self.log.removed(path.bytes());
+        Ok(Removal::Removed)
     }
 
     fn read_faults(&self, _path: &Str) -> u64 {
