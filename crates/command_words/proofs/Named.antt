@@ -57,7 +57,7 @@ module _ (f g : Given) (equal : (o : ValueOption) → f o ≡ g o) where
 
   pub same_command : (name : CommandName) (flags : Flags) (words : List Text) → command_of name flags f words ≡ command_of name flags g words
   same_command Page flags words = ap (λ over. page_command flags.lenient over words) (equal (Texted Over))
-  same_command Build flags words = ap (λ over. build_command flags.lenient over words) (equal (Texted Over))
+  same_command Build flags words = ap (λ over. build_command flags over words) (equal (Texted Over))
   same_command Data flags words = ap (λ over. data_command flags.lenient over words) (equal (Texted Over))
   same_command Serve flags words = same_serve flags words
   same_command Replay flags words = same_replay flags words
