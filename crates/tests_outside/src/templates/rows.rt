@@ -449,6 +449,52 @@ fn tags_are_refused_at_their_places(rt: HostRuntime) -> Result<(), Fail> {
     Ok(())
 }
 
+const WORKED_ROWS: &[Row] = &[
+    Row {
+        number: 81,
+        texts: &[
+            "<TEMPLATE R><SFOR ^URL IN @f>x</SFOR></TEMPLATE>",
+            "<TEMPLATE R>a^</LAYOUT></TEMPLATE>",
+            "<TEMPLATE R>a^<SBODY></TEMPLATE>",
+            "<TEMPLATE R><SFMT @f KEY=n KEY=t ^ORDER=descend></TEMPLATE>",
+            "<TEMPLATE R><SFMT @f KEY=a KEY=b KEY=c KEY=d ^KEY=e></TEMPLATE>",
+            "<TEMPLATE R><SFMT @f LIMIT=^0></TEMPLATE>",
+            "<TEMPLATE R><SFMT @f LINK=t KEY=t DESCEND ^FOLD></TEMPLATE>",
+            "<TEMPLATE R><SFMT @f KEY=t DESCEND ^ORDER=ascend></TEMPLATE>",
+            "<TEMPLATE R><SIF COUNT @f^>many</SIF></TEMPLATE>",
+            "<TEMPLATE R><SIF COUNT @f GT ^'3'>many</SIF></TEMPLATE>",
+            "<TEMPLATE R><SFMT @f RAW ^URL></TEMPLATE>",
+            "<TEMPLATE R><SFMT @f LINK=t ^LABEL='x'></TEMPLATE>",
+            "<TEMPLATE R><SIF COUNT @f ^SAME @f>a</SIF></TEMPLATE>",
+        ],
+    },
+    Row {
+        number: 82,
+        texts: &["<TEMPLATE R>x^<SNOTE>y</TEMPLATE>"],
+    },
+    Row {
+        number: 85,
+        texts: &[
+            "<FRAGMENT f><SFMT ^v.t></FRAGMENT><TEMPLATE R><SFOR v IN @f><SINCLUDE f></SFOR></TEMPLATE>",
+        ],
+    },
+    Row {
+        number: 86,
+        texts: &[
+            "<FRAGMENT b><SINCLUDE ^a></FRAGMENT><FRAGMENT a>1</FRAGMENT><TEMPLATE R>x</TEMPLATE>",
+            "<TEMPLATE R><SINCLUDE ^a></TEMPLATE><FRAGMENT a>1</FRAGMENT>",
+        ],
+    },
+];
+
+#[test]
+fn words_out_of_their_places_are_refused(rt: HostRuntime) -> Result<(), Fail> {
+    for row in WORKED_ROWS {
+        check_row(rt.alloc(), row)?;
+    }
+    Ok(())
+}
+
 // How many signs a text has, and what is reported of it.
 struct SignsRow {
     name: &'static str,
