@@ -217,6 +217,9 @@ SIGNS = dict(zip("`'^~=.\"", "\u0300\u0301\u0302\u0303\u0304\u0307\u0308"))
 MARKS = dict(zip("urHvdckb", "\u0306\u030a\u030b\u030c\u0323\u0327\u0328\u0331"))
 SPECIAL = {"ss": "ß", "o": "ø", "aa": "å", "ae": "æ", "oe": "œ", "l": "ł", "i": "ı", "j": "ȷ", "th": "þ", "dh": "ð", "O": "Ø", "AA": "Å", "AE": "Æ", "OE": "Œ", "L": "Ł", "TH": "Þ", "DH": "Ð"}
 SIGNED = re.compile(r"---|--|``|''|~")
+WORD = re.compile(r"\\([A-Za-z]+)")
+GAP = re.compile(r"[ \t\r\n]*")
+USUAL = re.compile(r"[^\\{}`'~-]+")
 INSTEAD = {"---": "—", "--": "–", "``": "“", "''": "”", "~": " "}
 MONTHS = "january february march april may june july august september october november december".split()
 
@@ -225,16 +228,19 @@ def shown(text):
     """What TeX shows of a text, in pieces."""
     at, accents = 0, ""
     while at < len(text):
-        sign = text[at]
-        word = re.compile(r"\\([A-Za-z]+)").match(text, at)
-        found = SIGNED.match(text, at)
+        sign, usual = text[at], None if accents else USUAL.match(text, at)
+        if usual:
+            yield usual[0]
+            at = usual.end()
+            continue
+        word, found = WORD.match(text, at), SIGNED.match(text, at)
         if word:
             at, name = word.end(), word[1]
             if name in MARKS:
                 accents = (MARKS[name] + accents)[:2]
             elif name in SPECIAL:
                 yield (name if accents and name in "ij" else SPECIAL[name]) + accents
-                at, accents = re.compile(r"[ \t\r\n]*").match(text, at).end(), ""
+                at, accents = GAP.match(text, at).end(), ""
             elif text[at : at + 1] != "{":
                 yield name + accents
                 accents = ""
