@@ -14,7 +14,7 @@ clone_commit() {
 }
 
 # Whether the kit's `rt ci` keeps what passes, for later runs.
-kit_keeps() { rt help 2>&1 | grep -q -e --anew; }
+kit_keeps() { [[ $(rt help 2>&1) == *--anew* ]]; }
 
 # build_in FOLDER [--anew]: has the gate pass in the clone, and leaves its program there, stripped, in FOLDER/released.
 # --anew takes nothing of what earlier runs on this machine proved.
