@@ -12,8 +12,8 @@ use crate::halt::Halt;
 use crate::macros::Macros;
 use crate::values::{has_room, tidy};
 use bibtex_bytes::{
-    begins_name, behind_blanks, digits, is_digit, is_key_byte, is_letter, key_bytes, letters, name_bytes,
-    written_bytes,
+    begins_name, behind_blanks, digits, is_digit, is_key_byte, is_letter, key_bytes, letters,
+    name_bytes, written_bytes,
 };
 use bibtex_spec::{Entry, Field, Fields, Item, Nesting};
 use sd_value::Str;
