@@ -47,6 +47,13 @@ fn has_name(wide: bool, bytes: &[u8]) -> bool
     }
 }
 
+// Whether a field's name is next.
+fn begins_field(macros: &Macros, bytes: &[u8]) -> bool
+    ensures { result ≡ starts (specs.begins_name macros.now.stand) bytes.now }
+{
+    has_name(macros.stand, bytes)
+}
+
 fn has_digit(bytes: &[u8]) -> bool
     ensures { result ≡ starts specs.is_digit bytes.now }
 {
@@ -343,7 +350,7 @@ fn fields_at<'a>(
     let mut rest = bytes;
     'fields: while has_mark(rest, b',') {
         let inner = mark_at(rest, b',')?;
-        if !has_name(macros.stand, inner) {
+        if !begins_field(macros, inner) {
             return Ok((fields, inner));
         }
         let (field, after) = field_at(alloc, macros, inner)?;
