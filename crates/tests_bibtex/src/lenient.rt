@@ -107,6 +107,25 @@ const ROWS: &[Row] = &[
         graph: b"object \"k\" in \"b\", \"misc\" {\n}\nobject \"l\" in \"b\", \"misc\" {\n}\n",
         ..ROW
     },
+    // Names with bytes beyond ASCII, and with an underscore first: of fields and of macros, that stand for their texts
+    // or for themselves.
+    Row {
+        text: b"@string{Gr\xc3\xb6\xc3\x9fe = {5}} @a{k, _t = gr\xc3\xb6\xc3\x9fe # _u # \xc3\xa9, __m1 = 1}",
+        graph: b"object \"k\" in \"a\", \"b\" {\n  \"__m1\" 1\n  \"_t\" \"5_u\xc3\xa9\"\n}\n",
+        ..ROW
+    },
+    Row {
+        text: b"@a{k, _t = 1}",
+        rules: BibRules::STRICT,
+        refusal: Some(BibRefusal::Expected(6)),
+        ..ROW
+    },
+    Row {
+        text: b"@string{G\xc3\xb6 = {5}}",
+        rules: BibRules::STRICT,
+        refusal: Some(BibRefusal::Expected(9)),
+        ..ROW
+    },
     // An item that isn't whole is refused, at its place in the file.
     Row {
         text: b"me@x.org @misc{k, a}",
