@@ -28,6 +28,15 @@ fn place_of(whole: u64, rest: &[u8]) -> u64
     whole.saturating_sub(rest.len() as u64)
 }
 
+// The name here, as it is written.
+fn name_here(alloc: Global, macros: &Macros, rest: &[u8]) -> Result<Vec<u8>, NoMemory>
+    ensures { IfOk result (λ word. word.items
+        ≡ run (spec_bytes.is_name_byte macros.now.stand) rest.now) }
+{
+    let (word, _) = written_bytes(alloc, macros.stand, rest)?;
+    Ok(word)
+}
+
 // Which limit the name here passes.
 fn macro_fault(
     alloc: Global,
@@ -36,9 +45,9 @@ fn macro_fault(
     rest: &[u8],
 ) -> Result<BibRefusal, NoMemory>
     ensures { IfOk result (λ e. e ≡ macro_fault (whole - length rest.now)
-        (text_of macros.now (run spec_bytes.is_name_byte rest.now))) }
+        (text_of macros.now (run (spec_bytes.is_name_byte macros.now.stand) rest.now))) }
 {
-    let (word, _) = written_bytes(alloc, rest)?;
+    let word = name_here(alloc, macros, rest)?;
     match macros.text(alloc, word.as_slice())? {
         Some(_) => Ok(BibRefusal::TooLarge(place_of(whole, rest))),
         None => Ok(BibRefusal::UnknownMacro(place_of(whole, rest))),
