@@ -1,0 +1,6 @@
+mod Ascending
+mod Lines
+mod Maps
+mod Leaving
+mod Removals
+mod Rises
