@@ -18,7 +18,7 @@ module _ (folder : List ℕ) (names gone : List (List ℕ)) (files : AreFileName
   kept name k h = ⊎_elim (λ e. e) (λ g. absurd (g.0.2 (subst (Contains names) (same_name folder name g.0.0 g.0.3) k))) h
 
   untouched : (path : List ℕ) → (IsNamed folder gone path → ⊥) → StaysOrGoes (IsLeft folder (names_at folder start) names) written whole.cleaned path → whole.cleaned path ≡ written path
-  untouched path no h = ⊎_elim (λ e. e) (λ g. absurd (no (g.0.0, subst (λ (ns : List (List ℕ)). Contains ns g.0.0) listed g.0.1, g.0.3))) h
+  untouched path unnamed h = ⊎_elim (λ e. e) (λ g. absurd (unnamed (g.0.0, subst (λ (ns : List (List ℕ)). Contains ns g.0.0) listed g.0.1, g.0.3))) h
 
   pub leaves : Leaves folder names gone old written new all
   leaves = record {

@@ -13,7 +13,7 @@ use Rattle.file_list.specs.Laws.{AreFileNames, IsReadAgain}
 
 -- ---- a list is read again
 
-Lacking : List ℕ → Type 0
+abbrev Lacking : List ℕ → Type 0
 Lacking name = All (λ byte. is_feed byte ≡ false) name
 
 lacking : (name : List ℕ) → ((byte : ℕ) → Contains name byte → is_feed byte ≡ false) → Lacking name
@@ -41,16 +41,16 @@ read_again names files short =
 -- ---- what is read has names of files
 
 first_lacks : {X : Type 0} (p : X → Bool) (x : X) (parts : List (List X)) → p x ≡ false → All (All (λ y. p y ≡ false)) parts → All (All (λ y. p y ≡ false)) (onto_first x parts)
-first_lacks p x [] no h = All-cons _ (x ∷ []) [] (All-cons _ x [] no (All-nil _)) (All-nil _)
-first_lacks p x (part ∷ parts) no h = All-cons _ (x ∷ part) parts (All-cons _ x part no (All-head _ part parts h)) (All-tail _ part parts h)
+first_lacks p x [] fails h = All-cons _ (x ∷ []) [] (All-cons _ x [] fails (All-nil _)) (All-nil _)
+first_lacks p x (part ∷ parts) fails h = All-cons _ (x ∷ part) parts (All-cons _ x part fails (All-head _ part parts h)) (All-tail _ part parts h)
 
 parts_lack : {X : Type 0} (p : X → Bool) (xs : List X) → All (All (λ y. p y ≡ false)) (slice_split p xs)
 parts_lack p [] = All-cons _ [] [] (All-nil _) (All-nil _)
-parts_lack p (x ∷ xs) = by (p x) refl
+parts_lack p (x ∷ xs) = by (p x) refl (parts_lack p xs)
   where
-    by : (t : Bool) → p x ≡ t → All (All (λ y. p y ≡ false)) (slice_split p (x ∷ xs))
-    by true yes = subst (All (All (λ y. p y ≡ false))) (sym (slice_split-cons_yes p x xs yes)) (All-cons _ [] (slice_split p xs) (All-nil _) (parts_lack p xs))
-    by false no = subst (All (All (λ y. p y ≡ false))) (sym (slice_split-cons_no p x xs no)) (first_lacks p x (slice_split p xs) no (parts_lack p xs))
+    by : (t : Bool) → p x ≡ t → All (All (λ y. p y ≡ false)) (slice_split p xs) → All (All (λ y. p y ≡ false)) (slice_split p (x ∷ xs))
+    by true passes rest = subst (All (All (λ y. p y ≡ false))) (sym (slice_split-cons_yes p x xs passes)) (All-cons _ [] (slice_split p xs) (All-nil _) rest)
+    by false fails rest = subst (All (All (λ y. p y ≡ false))) (sym (slice_split-cons_no p x xs fails)) (first_lacks p x (slice_split p xs) fails rest)
 
 listed_names : (text : List ℕ) → AreFileNames (listed text)
 listed_names text = record {

@@ -1,5 +1,5 @@
 -- Paths under a folder, and files put there.
-use Rattle.std.proofs.Common.{◌≡◌, ◌≢◌, ◌∙◌, ℕ, List, false, arith, refl, sym, ap}
+use Rattle.std.proofs.Common.{◌≡◌, ◌≢◌, ◌∙◌, ◌++◌, ℕ, List, false, arith, refl, sym, ap}
 use Rattle.std.specs.Prelude.{Contains, Some, codes}
 use Rattle.std.proofs.lemmas.Bool.{false≢true}
 use Rattle.std.proofs.lemmas.List.{append_cancel_left}
@@ -18,7 +18,7 @@ pub put_other : (map : FileMap) (path bytes other : List ℕ) → other ≢ path
 put_other map path bytes other differs = grind (arith, bytes_eq-Decides path other, differs)
 
 pub same_name : (folder a b : List ℕ) → under folder a ≡ under folder b → a ≡ b
-same_name folder a b e = append_cancel_left (codes "/") a b (append_cancel_left folder _ _ e)
+same_name folder a b e = append_cancel_left (codes "/") a b (append_cancel_left folder (codes "/" ++ a) (codes "/" ++ b) e)
 
 list_is_none : is_listable list_name ≡ false
 list_is_none = refl

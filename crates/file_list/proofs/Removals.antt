@@ -126,7 +126,7 @@ removals_none IsOver before = record { part = []; added = sym (append-nil before
 -- ---- one name
 
 module _ (folder : List ℕ) (new : List (List ℕ)) (name : List ℕ) where
-  One : List ℕ → Type 0
+  abbrev One : List ℕ → Type 0
   One = IsLeft folder (name ∷ []) new
 
   its_path : (path : List ℕ) → One path → path ≡ under folder name

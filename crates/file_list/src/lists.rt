@@ -33,11 +33,7 @@ fn list_path(alloc: Global, folder: &Str) -> Result<Str, NoMemory>
 /// # Errors
 ///
 /// The list can't be read, or out of memory.
-pub fn read_list<F: Files>(
-    alloc: Global,
-    files: &mut F,
-    folder: &Str,
-) -> Result<Vec<Str>, ReadEnd>
+pub fn read_list<F: Files>(alloc: Global, files: &mut F, folder: &Str) -> Result<Vec<Str>, ReadEnd>
     ensures traced { ListReads (F.contents files.old) (list_path folder.now)
         (F.trace files.old) (F.trace files.new) result }
     ensures names { IfOk result (λ names. ForSome (F.contents files.old)

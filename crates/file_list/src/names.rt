@@ -17,7 +17,8 @@ fn is_bad(segment: &[u8]) -> bool
 fn has_bad(name: &[u8]) -> bool
     ensures { result ≡ has_bad name.now }
 {
-    name.split(|byte| *byte == b'/').any(|segment| is_bad(segment))
+    name.split(|byte| *byte == b'/')
+        .any(|segment| is_bad(segment))
 }
 
 fn is_listable(name: &[u8]) -> bool
