@@ -8,6 +8,7 @@ use Rattle.std.proofs.lemmas.List.Splits.{slice_split_at, slice_split-cons_yes, 
 use Rattle.sd_value.specs.Members.{Contains-nil, Contains-here, Contains-there}
 use Rattle.sd_value.specs.Order.{bytes_cmp}
 use Rattle.sd_value.specs.Ascending.{ListsExactly}
+use Rattle.edge_io.specs.Files.{IsStartOf}
 use Rattle.file_list.specs.Lists.{is_feed, is_listable, listed, listed_at, list_text, most}
 use Rattle.file_list.specs.Laws.{AreFileNames, IsReadAgain}
 
@@ -40,17 +41,21 @@ read_again names files short =
 
 -- ---- what is read has names of files
 
-first_lacks : {X : Type 0} (p : X → Bool) (x : X) (parts : List (List X)) → p x ≡ false → All (All (λ y. p y ≡ false)) parts → All (All (λ y. p y ≡ false)) (onto_first x parts)
-first_lacks p x [] fails h = All-cons _ (x ∷ []) [] (All-cons _ x [] fails (All-nil _)) (All-nil _)
-first_lacks p x (part ∷ parts) fails h = All-cons _ (x ∷ part) parts (All-cons _ x part fails (All-head _ part parts h)) (All-tail _ part parts h)
+abbrev Fails : {X : Type 0} → (X → Bool) → List X → Type 0
+Fails p xs = All (λ x. p x ≡ false) xs
 
-parts_lack : {X : Type 0} (p : X → Bool) (xs : List X) → All (All (λ y. p y ≡ false)) (slice_split p xs)
-parts_lack p [] = All-cons _ [] [] (All-nil _) (All-nil _)
+first_lacks : {X : Type 0} (p : X → Bool) (x : X) (parts : List (List X)) → p x ≡ false → All (Fails p) parts → All (Fails p) (onto_first x parts)
+first_lacks p x [] fails h = All-cons (Fails p) (x ∷ []) [] (All-cons (λ y. p y ≡ false) x [] fails (All-nil (λ y. p y ≡ false))) (All-nil (Fails p))
+first_lacks p x (part ∷ parts) fails h =
+    All-cons (Fails p) (x ∷ part) parts (All-cons (λ y. p y ≡ false) x part fails (All-head (Fails p) part parts h)) (All-tail (Fails p) part parts h)
+
+parts_lack : {X : Type 0} (p : X → Bool) (xs : List X) → All (Fails p) (slice_split p xs)
+parts_lack p [] = All-cons (Fails p) [] [] (All-nil (λ y. p y ≡ false)) (All-nil (Fails p))
 parts_lack p (x ∷ xs) = by (p x) refl (parts_lack p xs)
   where
-    by : (t : Bool) → p x ≡ t → All (All (λ y. p y ≡ false)) (slice_split p xs) → All (All (λ y. p y ≡ false)) (slice_split p (x ∷ xs))
-    by true passes rest = subst (All (All (λ y. p y ≡ false))) (sym (slice_split-cons_yes p x xs passes)) (All-cons _ [] (slice_split p xs) (All-nil _) rest)
-    by false fails rest = subst (All (All (λ y. p y ≡ false))) (sym (slice_split-cons_no p x xs fails)) (first_lacks p x (slice_split p xs) fails rest)
+    by : (t : Bool) → p x ≡ t → All (Fails p) (slice_split p xs) → All (Fails p) (slice_split p (x ∷ xs))
+    by true passes rest = subst (All (Fails p)) (sym (slice_split-cons_yes p x xs passes)) (All-cons (Fails p) [] (slice_split p xs) (All-nil (λ y. p y ≡ false)) rest)
+    by false fails rest = subst (All (Fails p)) (sym (slice_split-cons_no p x xs fails)) (first_lacks p x (slice_split p xs) fails rest)
 
 listed_names : (text : List ℕ) → AreFileNames (listed text)
 listed_names text = record {
@@ -90,3 +95,9 @@ name_pushed f xs i d old new lt before is =
     ∙ sym (filter-append is_listable (map f (take i xs)) (f x ∷ []))
     ∙ ap (filter is_listable) (sym (map-append f (take i xs) (x ∷ [])))
     ∙ ap (λ l. filter is_listable (map f l)) (sym (take_more xs i d lt))
+
+-- ---- what was read
+
+pub read_names : (there : Option (List ℕ)) (bytes : List ℕ) → IsStartOf there most bytes → listed bytes ≡ listed_at there
+read_names None bytes h = absurd h
+read_names (Some whole) bytes h = ap listed h

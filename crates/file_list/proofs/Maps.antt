@@ -18,7 +18,7 @@ pub put_other : (map : FileMap) (path bytes other : List ℕ) → other ≢ path
 put_other map path bytes other differs = grind (arith, bytes_eq-Decides path other, differs)
 
 pub same_name : (folder a b : List ℕ) → under folder a ≡ under folder b → a ≡ b
-same_name folder a b e = append_cancel_left (codes "/") a b (append_cancel_left folder (codes "/" ++ a) (codes "/" ++ b) e)
+same_name folder a b e = append_cancel_left (folder ++ codes "/") a b e
 
 list_is_none : is_listable list_name ≡ false
 list_is_none = refl
