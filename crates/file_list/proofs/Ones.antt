@@ -93,8 +93,8 @@ module _ (folder : List ℕ) (new : List (List ℕ)) (name : List ℕ) where
       (record { each = λ path. inl refl; gone = λ all path h. absurd (none_left there path h) })
 
   gone_or_not : (before now : FileMap) (path : List ℕ) (b : Bool) → (Contains new name → ⊥) → now (under folder name) ≡ None → ChangesOnly before now (under folder name) → Decides b (path ≡ under folder name) → StaysOrGoes One before now path
-  gone_or_not before now path true over none only e = inr (subst One (sym e) (its_own folder new name over), ap now e ∙ none)
-  gone_or_not before now path false over none only differs = inl (only.elsewhere path differs)
+  gone_or_not before now path true over none only d = inr (subst One (sym (d.0 refl)) (its_own folder new name over), ap now (d.0 refl) ∙ none)
+  gone_or_not before now path false over none only d = inl (only.elsewhere path (λ e. false≢true (d.1 e)))
 
   one_clean : (before now : FileMap) (gone : Bool) → (Contains new name → ⊥) → FileRemoved (under folder name) before now (Ok gone) → IsClean One before now gone
   one_clean before now true over h = record {

@@ -129,8 +129,8 @@ module _ (folder : List ℕ) (new : List (List ℕ)) (name : List ℕ) where
   abbrev One : List ℕ → Type 0
   One = IsLeft folder (name ∷ []) new
 
-  its_path : (path : List ℕ) → One path → path ≡ under folder name
+  pub its_path : (path : List ℕ) → One path → path ≡ under folder name
   its_path path h = ⊎_elim (λ e. h.3 ∙ ap (under folder) (sym e)) (λ z. absurd (Contains-nil h.0 z)) (Contains-cons_cases name [] h.0 h.1)
 
   pub its_own : (Contains new name → ⊥) → One (under folder name)
-  its_own no = (name, Contains-here name [], no, refl)
+  its_own over = (name, Contains-here name [], over, refl)

@@ -1,5 +1,5 @@
 // What the list has and the site no longer has is removed.
-ghost use Rattle.std.specs.Prelude.{◌≡◌, ◌↔◌, ◌∷◌, [], IfOk, IsTrue, Contains};
+ghost use Rattle.std.specs.Prelude.{◌≡◌, ◌&&◌, ◌↔◌, ◌∷◌, [], IfOk, IsTrue, Contains};
 ghost use Rattle.std.specs.Option.{ForSome, IsSomeAnd};
 ghost use Rattle.std.specs.List.Sorted.{IsStrictlySortedBy};
 ghost use Rattle.sd_value.specs.Order.{bytes_cmp};
@@ -44,6 +44,12 @@ fn remove_file<F: Files>(
     }
 }
 
+fn both(all: bool, gone: bool) -> bool
+    ensures { result ≡ (all && gone) }
+{
+    all && gone
+}
+
 // Removes the file of the name, unless it is one of those that stay.
 fn remove_unless<F: Files>(
     alloc: Global,
@@ -64,8 +70,7 @@ fn remove_unless<F: Files>(
     if is_among(new, name) {
         return Ok(true);
     }
-    let gone = remove_file(alloc, files, folder, name)?;
-    Ok(gone)
+    remove_file(alloc, files, folder, name)
 }
 
 /// Removes the files under the folder whose names are in the old list and not in the new one, which ascends, and reports
@@ -92,8 +97,10 @@ pub fn remove_left<F: Files>(
 {
     let mut all = true;
     for name in old {
-        let gone = remove_unless(alloc, files, folder, new, name)?;
-        all = all && gone;
+        match remove_unless(alloc, files, folder, new, name) {
+            Ok(gone) => all = both(all, gone),
+            Err(stop) => return Err(stop),
+        }
     }
     Ok(all)
 }
