@@ -28,7 +28,7 @@ loop-name-preserved g c = record {
   reads = c.in-Ok.ensures.reads ∙ c.loop-name.invariant.reads;
   later = fell_not c.loop-name.invariant.later c.in-Ok.ensures.cause.later;
   cleans = λ before told.
-      subst (λ b. IsSomeAnd (g.F.Files.contents c.remove_unless.new.files) (λ now. IsClean (IsLeft c.args.folder.now (take (c.loop-name.name-index + 1) c.args.old.now) c.args.new.now) before now b)) (sym c.both.ensures)
+      subst (λ b. IsSomeAnd (g.F.Files.contents c.remove_unless.new.files) (λ now. IsClean (IsLeft c.args.folder.now (take (c.loop-name.name-index + 1) c.args.old.now) c.args.new.now) before now b)) (sym c.both-all.ensures)
       (clean_more (IsLeft c.args.folder.now (take c.loop-name.name-index c.args.old.now) c.args.new.now) (IsLeft c.args.folder.now (c.name-item.result ∷ []) c.args.new.now) (IsLeft c.args.folder.now (take (c.loop-name.name-index + 1) c.args.old.now) c.args.new.now)
       (front c.args.folder.now c.args.new.now c.args.old.now c.loop-name.name-index c.name-item.result c.loop-name-test.true c.name-item.is)
       (here c.args.folder.now c.args.new.now c.args.old.now c.loop-name.name-index c.name-item.result c.loop-name-test.true c.name-item.is)
