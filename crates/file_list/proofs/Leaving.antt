@@ -1,10 +1,10 @@
 -- What a whole build leaves, also after one that was cut off.
-use Rattle.std.proofs.Common.{◌≡◌, ◌≢◌, ◌∙◌, ◌⊎◌, ⊎_elim, ℕ, List, Bool, true, refl, sym, ap, subst}
-use Rattle.std.specs.Prelude.{Contains, Some, None}
+use Rattle.std.proofs.Common.{◌≡◌, ◌≢◌, ◌∙◌, ⊎_elim, ℕ, List, Bool, refl, sym, ap, subst}
+use Rattle.std.specs.Prelude.{Contains}
 use Rattle.edge_io.specs.Files.{FileMap}
 use Rattle.file_list.specs.Lists.{under, list_path, list_text, listed_at, IsLeft}
 use Rattle.file_list.specs.Calls.{StaysOrGoes}
-use Rattle.file_list.specs.Laws.{AreFileNames, names_at, IsNamed, BuildsWhole, IsCutOff, Leaves, WholeLeaves, CutIsMended}
+use Rattle.file_list.specs.Laws.{AreFileNames, names_at, IsNamed, BuildsWhole, Leaves, WholeLeaves, CutIsMended}
 use Rattle.file_list.proofs.Lines.{read_again, there_names, union_names}
 use Rattle.file_list.proofs.Maps.{put_here, put_other, same_name, no_list}
 

@@ -1,19 +1,19 @@
 -- File after file that is removed.
-use Rattle.std.proofs.Common.{◌≡◌, ◌≢◌, ◌∙◌, ◌+◌, ◌<◌, ◌≤◌, ◌⊎◌, ⊎_elim, inl, inr, ℕ, List, [], ◌∷◌, ◌++◌, Bool, true, length, get_or, take, drop, refl, sym, ap, subst, append_assoc, append-nil}
-use Rattle.std.specs.Prelude.{◌&&◌, Contains, Option, Some, None, Result, Ok, Err}
+use Rattle.std.proofs.Common.{◌≡◌, ◌∙◌, ◌+◌, ◌<◌, ◌⊎◌, ⊎_elim, inl, inr, ℕ, List, [], ◌∷◌, ◌++◌, Bool, true, length, get_or, take, drop, refl, sym, ap, subst, append_assoc, append-nil}
+use Rattle.std.specs.Prelude.{◌&&◌, Contains, Option, Some, None, Err}
 use Rattle.std.specs.List.{All}
 use Rattle.std.specs.Option.{IsSomeAnd}
 use Rattle.std.proofs.lemmas.Bool.{and_parts}
-use Rattle.std.proofs.lemmas.List.{take_more, take_all, take-append-drop}
-use Rattle.std.proofs.lemmas.List.Elements.{All-nil, All-weaker, All-append, All-cons, Contains-push, Contains-push_cases, Contains-append_left}
+use Rattle.std.proofs.lemmas.List.{take_more, take-append-drop}
+use Rattle.std.proofs.lemmas.List.Elements.{All-nil, All-weaker, All-append, Contains-push, Contains-push_cases, Contains-append_left}
 use Rattle.sd_value.specs.Members.{Contains-nil, Contains-here, Contains-cons_cases}
-use Rattle.happenings.specs.Happening.{Happening, Removed, RemoveFailed}
-use Rattle.edge_io.specs.Files.{FileMap, ChangesOnly}
+use Rattle.happenings.specs.Happening.{Happening, RemoveFailed}
+use Rattle.edge_io.specs.Files.{FileMap}
 use Rattle.files_spec.specs.declared.stop.Stop.{Stop}
 use Rattle.files_spec.specs.declared.stop.Stop.TheVariants.{Faulty, Unwritten, NoMemory}
 use Rattle.files_spec.specs.Writes.{Adds}
 use Rattle.file_list.specs.Lists.{under, IsLeft}
-use Rattle.file_list.specs.Calls.{FileRemoved, RemovalAdds, IsRemoval, RemovalsStop, RemovalsAdd, StaysOrGoes, IsClean, CleanEnds}
+use Rattle.file_list.specs.Calls.{IsRemoval, RemovalsAdd, StaysOrGoes, IsClean, CleanEnds}
 
 -- ---- one step more
 

@@ -1,7 +1,7 @@
 -- How reading and writing a list and removing files end.
 use Rattle.std.specs.Prelude.{◌≡◌, ◌≢◌, ◌⊎◌, ℕ, Bool, true, false, List, [], ◌∷◌, ◌++◌, Option, None, Result, Ok, Err, ⊤}
 use Rattle.std.specs.List.{All}
-use Rattle.std.specs.Option.{ForSome, IsSomeAnd}
+use Rattle.std.specs.Option.{ForSome}
 use Rattle.happenings.specs.Happening.{Happening, Read, ReadFailed, WriteFailed, Removed, RemoveFailed}
 use Rattle.edge_io.specs.Files.{FileMap, put_file, ChangesOnly, IsStartOf}
 use Rattle.files_spec.specs.declared.stop.Stop.{Stop}
