@@ -303,10 +303,15 @@ def byline(fields):
 
 
 def cleared(text):
-    """A text with blanks for comments within items and for each `@` that begins no item."""
+    """A text with blanks for comments and for each `@` that begins no item."""
     text, at = bytearray(text), 0
     begins = re.compile(rb"@[ \t\r\n]*([A-Za-z]+)[ \t\r\n]*([{(])([ \t\r\n]*)")
-    while (at := text.find(b"@", at)) >= 0:
+    while found := re.compile(rb"[@%]").search(text, at):
+        at = found.start()
+        if found[0] == b"%":
+            end = re.compile(rb"[\r\n]|$").search(text, at).start()
+            text[at:end] = b" " * (end - at)
+            continue
         item = begins.match(text, at)
         if item is None or item[1].lower() == b"comment":
             text[at : at + 1] = b" "

@@ -84,9 +84,26 @@ const ROWS: &[Row] = &[
         graph: b"object \"k\" in \"b\", \"misc\" {\n  \"n\" \"% x\"\n}\n",
         ..ROW
     },
-    // What stands outside of items is no comment, and an item in it is read.
+    // Outside of items too: a line, an entry line by line, and the first line of a form.
     Row {
-        text: b"% @misc{k}\n@comment{x} @ % @misc {l} % @misc",
+        text: b"% @misc{k}\n@comment{x} @ % @misc {l}\r@misc {m} % @misc",
+        graph: b"object \"m\" in \"b\", \"misc\" {\n}\n",
+        ..ROW
+    },
+    Row {
+        text: b"%@misc{k,\n%  note = 1\n%}\n@misc{l}",
+        graph: b"object \"l\" in \"b\", \"misc\" {\n}\n",
+        ..ROW
+    },
+    Row {
+        text: b"%@misc{,\n note = 1\n}\n@misc{l}",
+        graph: b"object \"l\" in \"b\", \"misc\" {\n}\n",
+        ..ROW
+    },
+    // Strictly such an entry is read as any other.
+    Row {
+        text: b"% @misc{k}\n@misc{l}",
+        rules: BibRules::STRICT,
         graph: b"object \"k\" in \"b\", \"misc\" {\n}\nobject \"l\" in \"b\", \"misc\" {\n}\n",
         ..ROW
     },
