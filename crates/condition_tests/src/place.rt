@@ -3,7 +3,9 @@ ghost use Rattle.std.specs.Prelude.{◌≡◌, ◌<◌, MatchOption, length, Non
 ghost use Rattle.condition_tests.specs.Places.{IsKnown, IsFree, PlaceInRange, AtomInRange, IsWhole, IsGround};
 
 use crate::literal::{Atom, Slot};
-use sd_value::Value;
+use query_spec::Sort;
+use sd_value::{NoMemory, Value, copy};
+use std::alloc::Global;
 
 /// The value of a variable, if it has one yet.
 pub fn value_of(slot: usize, current: &[Option<Value>]) -> Option<&Value>
@@ -41,6 +43,80 @@ pub fn free_at(place: &Slot, current: &[Option<Value>]) -> Option<usize>
     }
 }
 
+/// The values at places, if all are known.
+pub fn known_all(
+    alloc: Global,
+    places: &[Slot],
+    current: &[Option<Value>],
+) -> Result<Option<Vec<Value>>, NoMemory> {
+    let mut values = Vec::with_capacity(alloc, places.len())?;
+    for place in places {
+        let Some(value) = known(place, current) else {
+            return Ok(None);
+        };
+        values.push(copy(alloc, value)?)?;
+    }
+    Ok(Some(values))
+}
+
+// The first variable at one of the places that has no value yet.
+fn free_among(places: &[Slot], current: &[Option<Value>]) -> Option<usize> {
+    for place in places {
+        if let Some(slot) = free_at(place, current) {
+            return Some(slot);
+        }
+    }
+    None
+}
+
+fn is_open(slot: usize, sorts: &[Sort], current: &[Option<Value>]) -> bool {
+    value_of(slot, current).is_none() && !matches!(sorts[slot], Sort::Computed)
+}
+
+/// The variable at a place, if it has no value yet and has a domain.
+pub fn open_at(place: &Slot, sorts: &[Sort], current: &[Option<Value>]) -> Option<usize> {
+    match place {
+        Slot::Variable(slot) => if is_open(*slot, sorts, current) {
+            Some(*slot)
+        } else {
+            None
+        },
+        Slot::Fixed(_) => None,
+    }
+}
+
+fn open_among(places: &[Slot], sorts: &[Sort], current: &[Option<Value>]) -> Option<usize> {
+    for place in places {
+        if let Some(slot) = open_at(place, sorts, current) {
+            return Some(slot);
+        }
+    }
+    None
+}
+
+/// A variable of the atom with no value yet, and with a domain.
+pub fn open_slot(atom: &Atom, sorts: &[Sort], current: &[Option<Value>]) -> Option<usize> {
+    match atom {
+        Atom::One(place, _) => open_at(place, sorts, current),
+        Atom::Two(from, _, to) => match open_at(from, sorts, current) {
+            Some(slot) => Some(slot),
+            None => open_at(to, sorts, current),
+        },
+        Atom::Arc(from, arc, to) => match open_at(from, sorts, current) {
+            Some(slot) => Some(slot),
+            None => if is_open(*arc, sorts, current) {
+                Some(*arc)
+            } else {
+                open_at(to, sorts, current)
+            },
+        },
+        Atom::Call(left, _, args) => match open_among(args, sorts, current) {
+            Some(slot) => Some(slot),
+            None => open_at(left, sorts, current),
+        },
+    }
+}
+
 /// A variable of the atom with no value yet.
 pub fn free_slot(atom: &Atom, current: &[Option<Value>]) -> Option<usize>
     requires { AtomInRange (length current.now) atom.now }
@@ -59,6 +135,10 @@ pub fn free_slot(atom: &Atom, current: &[Option<Value>]) -> Option<usize>
                 Some(_) => free_at(to, current),
                 None => Some(*arc),
             },
+        },
+        Atom::Call(left, _, args) => match free_among(args, current) {
+            Some(slot) => Some(slot),
+            None => free_at(left, current),
         },
     }
 }

@@ -10,7 +10,7 @@ use Rattle.sd_value.specs.Names.{Name, Label}
 use Rattle.graph_spec.specs.declared.Edge.{Edge}
 use Rattle.graph_spec.specs.DataGraph.{DataGraph, HasMember, IsLabelOf}
 use Rattle.query_spec.specs.Query.{Condition, negation, Target, Body}
-use Rattle.query_spec.specs.Mentions.{names, arc_names}
+use Rattle.query_spec.specs.Mentions.{names, arcs_in}
 use Rattle.query_spec.specs.Rows.{IsRow}
 use Rattle.tmpl.specs.Body.{TemplateFile}
 use Rattle.site_spec.specs.Site.{Scope, chain, target_terms, SomeOf}
@@ -89,7 +89,7 @@ module _ (graph : DataGraph) (q : Scope) (templates : TemplateFile) (further : L
   IsMistake (asked.Labels labels) = SomeOf (λ l. IsLabelOf graph l → ⊥) labels
   -- the variable stands for a label, and no edge has one of those with which it is compared
   IsMistake (asked.Compared number x labels) =
-      OfBlock q number (λ b. Contains (flat_map arc_names b.conditions) x)
+      OfBlock q number (λ b. Contains (arcs_in b.conditions b.nones) x)
       × SomeOf (λ l. IsLabelOf graph l → ⊥) labels
   -- no condition of the chain mentions the variable outside of `not`
   IsMistake (asked.Variable number x) =

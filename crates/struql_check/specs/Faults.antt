@@ -10,7 +10,7 @@ use Rattle.struql_ast.specs.Written.{Name, expression, Condition, path, negation
 use Rattle.struql_check.specs.declared.faults.Check.{Check}
 use Rattle.struql_check.specs.declared.faults.Check.TheVariants.{TooManyPositions, Unbound, NeverCreated, Arity}
 use Rattle.struql_check.specs.declared.faults.Check.TheVariants.{LinkFromData, ArcAsNode, NotLabel, Reserved}
-use Rattle.struql_check.specs.declared.faults.Check.TheVariants.{TooManyVariables}
+use Rattle.struql_check.specs.declared.faults.Check.TheVariants.{TooManyVariables, LocalToNone, NotYetKnown, BadPattern}
 use Rattle.struql_check.specs.declared.mentions.VariableUse.{VariableUse}
 use Rattle.struql_check.specs.declared.mentions.Role.{Role}
 use Rattle.struql_check.specs.declared.mentions.Role.TheVariants.{Arc, End, Label, Other}
@@ -28,19 +28,38 @@ abbrev pub IsLabelRole : Role → Type 0
 IsLabelRole Arc = Unit {0}
 IsLabelRole End = ⊥
 IsLabelRole Label = Unit {0}
+IsLabelRole Given = ⊥
 IsLabelRole Other = ⊥
 
 -- Unbound: no condition of the chain mentions the variable. ArcAsNode: an arc variable as an end of a path or as the
 -- variable of `C(x)`. NotLabel: a node variable between arrows in a condition, or as a link's label.
-abbrev pub RoleFault : Option Bool → Role → ℕ → Check → ℕ → Type 0
-RoleFault is_arc role here Unbound at = (is_arc ≡ None) × (at ≡ here)
-RoleFault is_arc role here ArcAsNode at = (role ≡ End) × (is_arc ≡ Some true) × (at ≡ here)
-RoleFault is_arc role here NotLabel at = IsLabelRole role × (is_arc ≡ Some false) × (at ≡ here)
-RoleFault is_arc role here check at = ⊥
+abbrev pub RoleFault : Option Sort → Role → ℕ → Check → ℕ → Type 0
+RoleFault sort role here Unbound at = (sort ≡ None) × (at ≡ here)
+RoleFault sort role here ArcAsNode at = (role ≡ End) × (sort ≡ Some SortArc) × (at ≡ here)
+RoleFault sort role here NotLabel at =
+    IsLabelRole role × ((sort ≡ Some Node) ⊎ (sort ≡ Some Computed)) × (at ≡ here)
+RoleFault sort role here check at = ⊥
 
--- the fault of one mention, given the blocks round it
-abbrev pub MentionFault : List (List VariableUse) → VariableUse → Check → ℕ → Type 0
-MentionFault round x check at = RoleFault (sort_of round x.name) x.role x.at check at
+-- a mention outside of every NONE of a name that is local to one
+abbrev pub is_local_outside : List Name → VariableUse → Bool
+is_local_outside locals x = is_nothing x.site.none && list_any (same_name x.name) locals
+
+-- the sort of a variable where it is mentioned: a local one's is that of its NONE alone
+abbrev pub sort_at : List (List VariableUse) → List VariableUse → VariableUse → Option Sort
+sort_at levels ms x =
+    if x.site.local then sort_within ms x.site.none x.name else sort_of levels x.name
+
+-- LocalToNone: a mention outside of every NONE of a name that is local to one
+abbrev pub LocalFault : ℕ → Check → ℕ → Type 0
+LocalFault here LocalToNone at = at ≡ here
+LocalFault here check at = ⊥
+
+-- the fault of one of these mentions, given the blocks round it and which names are local to NONEs
+abbrev pub MentionFault : List (List VariableUse) → List Name → List VariableUse → VariableUse
+    → Check → ℕ → Type 0
+MentionFault levels locals ms x check at =
+    MatchBool (is_local_outside locals x) (LocalFault x.at check at)
+    (RoleFault (sort_at levels ms x) x.role x.at check at)
 
 -- the place where a list of mentions first has a variable more than 32
 abbrev pub IsPast : List VariableUse → ℕ → Type 0
@@ -128,12 +147,70 @@ CollectFault version o Reserved at =
     (is_reserved version o.collection ≡ true) × (at ≡ o.span.start)
 CollectFault version o check at = ⊥
 
+-- ---- calls
+
+-- what is known of the variables where a call is: the sort of each, and which of them are left of calls before it
+pub record Place : Type 0 where
+  pub sort : Name → Option Sort
+  pub known : List Name
+
+-- NotYetKnown: an argument to which calls give values, and none before this one does
+abbrev pub ArgumentFault : Place → Operand → Check → ℕ → Type 0
+ArgumentFault p (Variable x span) NotYetKnown at =
+    (p.sort x ≡ Some Computed) × (list_any (same_name x) p.known ≡ false) × (at ≡ span.start)
+ArgumentFault p operand check at = ⊥
+
+-- Arity: another number of arguments than the function takes
+abbrev pub CallArity : Function → List Operand → ℕ → Check → ℕ → Type 0
+CallArity f args here Arity at = (Takes f (length args) → ⊥) × (at ≡ here)
+CallArity f args here check at = ⊥
+
+-- BadPattern: no constant that is a regular expression
+abbrev pub PatternFault : Operand → Check → ℕ → Type 0
+PatternFault (Variable x span) BadPattern at = at ≡ span.start
+PatternFault (Constant v span) BadPattern at = (IsPattern v → ⊥) × (at ≡ span.start)
+PatternFault operand check at = ⊥
+
+-- the fault of a condition's call or pattern
+abbrev pub CallFault : Place → Condition → Check → ℕ → Type 0
+CallFault p (gives computes t sign f f_span args span) check at =
+    CallArity f args f_span.start check at ⊎ SomeIn (ArgumentFault p) args check at
+CallFault p (compare t (Texts Matches) u span) check at = PatternFault u check at
+CallFault p (negation c span) check at = CallFault p c check at
+CallFault p c check at = ⊥
+
+-- the faults of conditions one after another, each with what the calls before it give
+abbrev pub CallFaults : (Name → Option Sort) → List Name → List Condition → Check → ℕ → Type 0
+CallFaults sort known [] check at = ⊥
+CallFaults sort known (c ∷ cs) check at =
+    CallFault (record { sort = sort; known = known }) c check at
+    ⊎ CallFaults sort (known ++ called c) cs check at
+
+-- the sort of a variable in a NONE
+abbrev pub sort_in : List (List VariableUse) → List VariableUse → NoneOf → Name → Option Sort
+sort_in levels ms n x = or_else_sort (sort_of levels x) (sort_within ms (Some n.span.start) x)
+
+-- the conditions that begin before the place
+abbrev pub begun_before : ℕ → List Condition → List Condition
+begun_before at cs = filter (λ c. nat_lt (condition_start c) at) cs
+
+-- the faults of the calls of a block and of its NONEs
+abbrev pub BlockCalls : ScopedBlock → Check → ℕ → Type 0
+BlockCalls b check at =
+    CallFaults (sort_of b.here.levels) b.round.given b.clauses.conditions check at
+    ⊎ SomeIn (λ n. CallFaults (sort_in b.here.levels b.own n)
+    (b.round.given ++ flat_map called (begun_before n.span.start b.clauses.conditions))
+    n.conditions) b.clauses.nones check at
+
 -- a fault of a block, given the version and the blocks round it
 abbrev pub BlockFault : ℕ → ScopedBlock → Check → ℕ → Type 0
 BlockFault version b check at =
-    SomeIn (MentionFault b.round) (block_mentions b.clauses) check at
+    SomeIn (MentionFault b.here.levels b.round.locals b.own) b.own check at
+    ⊎ SomeIn (MentionFault b.here.levels b.here.locals (uses b.clauses)) (uses b.clauses) check at
     ⊎ ChainFault (chain_mentions b) check at
+    ⊎ BlockCalls b check at
     ⊎ SomeIn ConditionFault b.clauses.conditions check at
+    ⊎ SomeIn (λ n. SomeIn ConditionFault n.conditions) b.clauses.nones check at
     ⊎ SomeIn LinkFault b.clauses.links check at
     ⊎ SomeIn (CollectFault version) b.clauses.collects check at
 
@@ -181,6 +258,9 @@ number ArcAsNode = 65
 number NotLabel = 66
 number Reserved = 67
 number TooManyVariables = 68
+number LocalToNone = 151
+number NotYetKnown = 152
+number BadPattern = 153
 
 -- the fault at the least place, and there the one of the least number
 pub record IsLeastFault (P : Check → ℕ → Type 0) (check : Check) (at : ℕ) : Type 0 where

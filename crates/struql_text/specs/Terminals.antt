@@ -233,11 +233,41 @@ text_test_of w =
     if bytes_eq w (codes "starts") then Some Starts
     else (if bytes_eq w (codes "ends") then Some Ends
     else (if bytes_eq w (codes "has") then Some Has
-    else None))
+    else (if bytes_eq w (codes "matches") then Some Matches
+    else None)))
 
 -- the same in a version: there are such tests in version 3
 abbrev pub pair_test : ℕ → List ℕ → Option TextTest
 pair_test version w = if nat_eq version 3 then text_test_of w else None
+
+-- the function of this name
+pub unfoldable function_named : List ℕ → Option Function
+function_named w = find (λ f. bytes_eq w (name_of f)) all_functions
+
+-- the function that a name calls after the sign: after `=` none that may have several values
+abbrev pub after_sign : CallSign → Function → Option Function
+after_sign Equals Split = None
+after_sign sign f = Some f
+
+-- the function that a name calls after the sign, in version 3
+abbrev pub function_in : ℕ → CallSign → List ℕ → Option Function
+function_in version sign w =
+    if nat_eq version 3 then and_then (function_named w) (after_sign sign) else None
+
+-- the function whose name is next
+abbrev pub function_next : ℕ → List Token → Option Function
+function_next version [] = None
+function_next version (t ∷ ts) = function_of_kind version t.kind
+
+-- the function that a token names
+abbrev pub function_of_kind : ℕ → TokenKind → Option Function
+function_of_kind version (kinds.Name w) = function_in version In w
+function_of_kind version kind = None
+
+-- the function that an operator and the operand after it call
+abbrev pub called_after : ℕ → Op → Operand → Option Function
+called_after version op.Eq (Variable x span) = function_in version Equals x
+called_after version o u = None
 
 -- `count`, `min` or `max` of a variable, by the function's name
 unfoldable pub aggregate_named : List ℕ → List ℕ → Span → Option Aggregate

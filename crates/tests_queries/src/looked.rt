@@ -6,7 +6,7 @@ use crate::rows::put_row;
 use conditions::{Assigned, holds};
 use edge_queries::{all_labels, all_values};
 use query_blocks::QueryBlocks;
-use query_spec::Variable;
+use query_spec::{Sort, Variable};
 use sd_graph::Graph;
 use sd_value::{Datum, NoMemory, Value, copied_list, copy, sort_and_dedup};
 use std::alloc::Global;
@@ -60,7 +60,10 @@ fn assignments(
     let mut rows = Vec::new(alloc);
     rows.push(Vec::new(alloc))?;
     for variable in variables {
-        let domain = if variable.arc { &labels } else { &values };
+        let domain = match variable.sort {
+            Sort::Arc => &labels,
+            Sort::Node | Sort::Computed => &values,
+        };
         rows = extended(alloc, rows.as_slice(), domain.as_slice())?;
     }
     Ok(rows)

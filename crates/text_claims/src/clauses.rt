@@ -11,7 +11,7 @@ use crate::conditions::{push, push_condition};
 use lint_spec::{Asked, Claim};
 use sd_value::NoMemory;
 use std::alloc::Global;
-use struql_ast::{Block, Collect, Condition, Link, SkolemTerm, Target};
+use struql_ast::{Block, Collect, Condition, Link, NoneOf, SkolemTerm, Target};
 
 fn push_conditions(
     alloc: Global,
@@ -24,6 +24,21 @@ fn push_conditions(
 {
     for condition in conditions {
         push_condition(alloc, found, block, false, condition)?;
+    }
+    Ok(())
+}
+
+fn push_nones(
+    alloc: Global,
+    found: &mut Vec<Claim>,
+    block: u64,
+    nones: &[NoneOf],
+) -> Result<(), NoMemory>
+    ensures { IfOk result (λ _. found.new.items ≡ found.old.items
+        ++ flat_map (none_claims block) (map none_written nones.now)) }
+{
+    for none in nones {
+        push_conditions(alloc, found, block, &none.conditions)?;
     }
     Ok(())
 }
@@ -88,6 +103,7 @@ pub(crate) fn push_block(
 {
     push(found, Asked::Rows(number), block.span.start)?;
     push_conditions(alloc, found, number, &block.conditions)?;
+    push_nones(alloc, found, number, &block.nones)?;
     push_creates(alloc, found, &block.creates)?;
     push_links(alloc, found, &block.links)?;
     push_collects(alloc, found, &block.collects)
