@@ -11,6 +11,7 @@ from measure import STRUDEL, exponent, least, measured, written
 
 LETTERS = b"abcdefghijklmnopqrstuvwxyzABCDEFGHIJKLMNOPQRSTUVWXYZ"
 NAMES = LETTERS + b"0123456789_-:.+/"
+BEYOND = bytes(range(128, 256))
 BLANKS = b" \t\r\n"
 DEEPEST = 64
 LARGEST = 1_048_576
@@ -22,6 +23,8 @@ class Refused(Exception):
 
 class Reader:
     """A plain reader of `.bib` files, by the grammar of docs/FORMATS.md: what the program's answer is compared with."""
+
+    begins, names = LETTERS, NAMES
 
     def __init__(self, text):
         self.text, self.at, self.nodes = text, 0, {}
@@ -83,7 +86,7 @@ class Reader:
         if byte.isdigit():
             return self.run(b"0123456789", b"0123456789")
         start = self.at
-        text = self.macro(self.run(LETTERS, NAMES))
+        text = self.macro(self.run(self.begins, self.names))
         if text is None:
             raise Refused(122, start)
         if len(before) + len(text) > LARGEST:
@@ -119,7 +122,7 @@ class Reader:
             if self.byte() == close:
                 self.at += 1
                 break
-            name = self.run(LETTERS, NAMES).lower()
+            name = self.run(self.begins, self.names).lower()
             self.one(b"=")
             fields.append((name, tidy(self.value())))
         self.enter(stem, kind, key, fields)
@@ -140,7 +143,7 @@ class Reader:
             word = self.run(LETTERS, LETTERS).lower()
             if word == b"string":
                 close = self.opened()
-                name = self.run(LETTERS, NAMES).lower()
+                name = self.run(self.begins, self.names).lower()
                 self.one(b"=")
                 value = self.value()
                 self.one(close)
@@ -303,10 +306,15 @@ def byline(fields):
 
 
 def cleared(text):
-    """A text with blanks for comments within items and for each `@` that begins no item."""
+    """A text with blanks for comments and for each `@` that begins no item."""
     text, at = bytearray(text), 0
     begins = re.compile(rb"@[ \t\r\n]*([A-Za-z]+)[ \t\r\n]*([{(])([ \t\r\n]*)")
-    while (at := text.find(b"@", at)) >= 0:
+    while found := re.compile(rb"[@%]").search(text, at):
+        at = found.start()
+        if found[0] == b"%":
+            end = re.compile(rb"[\r\n]|$").search(text, at).start()
+            text[at:end] = b" " * (end - at)
+            continue
         item = begins.match(text, at)
         if item is None or item[1].lower() == b"comment":
             text[at : at + 1] = b" "
@@ -340,6 +348,8 @@ def cleared(text):
 
 class Lenient(Reader):
     """The same, read leniently."""
+
+    begins, names = LETTERS + b"_" + BEYOND, NAMES + BEYOND
 
     def __init__(self, text):
         super().__init__(cleared(text))

@@ -99,6 +99,19 @@ explain_ending() {
   esac
 }
 
+# Which tags those may be that `lint` told there are none of, in the files of its words.
+explain_tags() {
+  local file at name slash near
+  for file in "$@"; do
+    if [ ! -f "$file" ] || [ ! -r "$file" ]; then continue; fi
+    while read -r at name; do
+      slash=${name%%[!/]*}
+      near=$(printf '%s\n' sfmt sif sfor sinclude selse sbody snote template layout fragment | awk -v word="${name#/}" -f "$top/share/explain/nearest.awk")
+      [ -z "$near" ] || over place "$file" at="$at" told="<$name is no tag: did you mean <$slash${near^^}?"
+    done < <(over tags "$file")
+  done
+}
+
 # A place in a JSON file, where it isn't too large to be looked through.
 explain_json() {
   local file=$1 pointer=$2 told=$3 found

@@ -35,9 +35,16 @@ pub fn is_digit(b: u8) -> bool
     b >= b'0' && b <= b'9'
 }
 
+/// Whether a name begins with this byte.
+pub fn begins_name(wide: bool, b: u8) -> bool
+    ensures { result ≡ specs.begins_name wide b }
+{
+    is_letter(b) || ((b == b'_' || b >= 128) && wide)
+}
+
 /// Whether a byte may be in a name.
-pub fn is_name_byte(b: u8) -> bool
-    ensures { result ≡ specs.is_name_byte b }
+pub fn is_name_byte(wide: bool, b: u8) -> bool
+    ensures { result ≡ specs.is_name_byte wide b }
 {
     is_letter(b)
         || is_digit(b)
@@ -47,6 +54,7 @@ pub fn is_name_byte(b: u8) -> bool
         || b == b'.'
         || b == b'+'
         || b == b'/'
+        || (b >= 128 && wide)
 }
 
 /// Whether a byte may be in a key.
@@ -112,15 +120,15 @@ pub fn letters(alloc: Global, bytes: &[u8]) -> Result<(Vec<u8>, &[u8]), NoMemory
 }
 
 /// The longest run of a name's bytes in lower case, and the bytes behind it.
-pub fn name_bytes(alloc: Global, bytes: &[u8]) -> Result<(Vec<u8>, &[u8]), NoMemory>
-    ensures is { IfOk result (λ x. (x.0.items ≡ map specs.lower (run specs.is_name_byte bytes.now))
-        × (x.1.now ≡ behind specs.is_name_byte bytes.now)) }
+pub fn name_bytes(alloc: Global, wide: bool, bytes: &[u8]) -> Result<(Vec<u8>, &[u8]), NoMemory>
+    ensures is { IfOk result (λ x. (x.0.items ≡ map specs.lower (run (specs.is_name_byte wide) bytes.now))
+        × (x.1.now ≡ behind (specs.is_name_byte wide) bytes.now)) }
     ensures shorter { IfOk result (λ x. length x.1.now ≤ length bytes.now) }
 {
     let mut name = Vec::new(alloc);
     let mut rest = bytes;
     'name: while let [b, later @ ..] = rest {
-        if !is_name_byte(*b) {
+        if !is_name_byte(wide, *b) {
             return Ok((name, rest));
         }
         name.push(lower(*b))?;
@@ -130,15 +138,15 @@ pub fn name_bytes(alloc: Global, bytes: &[u8]) -> Result<(Vec<u8>, &[u8]), NoMem
 }
 
 /// The longest run of a name's bytes as they are written, and the bytes behind it.
-pub fn written_bytes(alloc: Global, bytes: &[u8]) -> Result<(Vec<u8>, &[u8]), NoMemory>
-    ensures is { IfOk result (λ x. (x.0.items ≡ run specs.is_name_byte bytes.now)
-        × (x.1.now ≡ behind specs.is_name_byte bytes.now)) }
+pub fn written_bytes(alloc: Global, wide: bool, bytes: &[u8]) -> Result<(Vec<u8>, &[u8]), NoMemory>
+    ensures is { IfOk result (λ x. (x.0.items ≡ run (specs.is_name_byte wide) bytes.now)
+        × (x.1.now ≡ behind (specs.is_name_byte wide) bytes.now)) }
     ensures shorter { IfOk result (λ x. length x.1.now ≤ length bytes.now) }
 {
     let mut word = Vec::new(alloc);
     let mut rest = bytes;
     'written: while let [b, later @ ..] = rest {
-        if !is_name_byte(*b) {
+        if !is_name_byte(wide, *b) {
             return Ok((word, rest));
         }
         word.push(*b)?;

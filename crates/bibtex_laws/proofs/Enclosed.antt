@@ -1,21 +1,22 @@
 -- The part for texts up to the byte that closes them.
-use Rattle.std.proofs.Common.{◌≡◌, ◌+◌, ◌≤◌, ◌<◌, ℕ, zero, suc, Bool, true, false, List, [], ◌∷◌, ◌++◌, length, length-append, refl, sym, ap, subst, ◌∙◌, append_assoc, inl, inr, arith}
-use Rattle.std.specs.Prelude.{◌⊎◌, nat_eq}
+use Rattle.std.proofs.Common.{◌≡◌, ◌+◌, ◌≤◌, ◌<◌, ℕ, zero, suc, false, List, [], ◌∷◌, ◌++◌, length, length-append, refl, sym, ap, subst, ◌∙◌, append_assoc, inl, inr, arith}
+use Rattle.std.specs.Prelude.{◌⊎◌}
 use Rattle.std.proofs.lemmas.List.{append_cancel_right}
 use Rattle.grammar.specs.Fault.{Every}
-use Rattle.grammar.specs.Reading.{Outcome, Read, Stuck, Past, and_then, starts, with_front}
-use Rattle.grammar.proofs.Laws.{Always, IsPast, every_append}
+use Rattle.grammar.specs.Reading.{Outcome, Read, Stuck, Past, starts}
+use Rattle.grammar.proofs.Laws.{Always, IsPast}
 use Rattle.bibtex_laws.specs.Past.{IsPastAt}
-use Rattle.bibtex_laws.proofs.Laws.{End, Value, Unexpected, answer, Core, Reads, no_front}
+use Rattle.bibtex_laws.proofs.Laws.{End, Value, Unexpected, answer, no_front}
 use Rattle.bibtex_laws.proofs.Parts.{Part}
 use Rattle.bibtex_spec.specs.declared.Nesting.{Nesting}
 use Rattle.bibtex_spec.specs.declared.Nesting.TheVariants.{Closes, Unpaired, TooDeep, Goes}
 use Rattle.bibtex_spec.specs.Reading.{with_byte, nesting, nested, enclosed as read_up_to}
-use Rattle.bibtex_laws.specs.Braces.{single, count, IsEnclosed, IsShallow}
+use Rattle.bibtex_laws.specs.Braces.{single, IsEnclosed, IsShallow}
+use Rattle.bibtex_spec.specs.Macros.{MacroTexts}
 use Rattle.bibtex_laws.specs.Limits.{IsByte, IsLimit, none}
 use Rattle.bibtex_laws.proofs.Braces.{Step, Closed, Bare, Deep, On, step, enclosed_none, enclosed_more, enclosed_less, shallow_none, shallow_more, shallow_less, closers, closers_enclosed, closers_shallow}
 
-module _ (close : ℕ) (real : IsByte close) where
+module _ (macros : MacroTexts) (close : ℕ) (real : IsByte close) where
   abbrev pub within : ℕ → List ℕ → List ℕ → Type 0
   within outer bytes text = (bytes ≡ text ++ close ∷ []) × IsEnclosed outer close text × IsShallow outer text
 
@@ -163,7 +164,7 @@ module _ (close : ℕ) (real : IsByte close) where
   -- where a brace is too deep
 
   abbrev passed : List ℕ → ℕ → List ℕ → Type 0
-  passed tokens outer rest = IsPastAt IsByte IsLimit (within outer) (at_all outer) (up_to outer) tokens rest
+  passed tokens outer rest = IsPastAt IsByte (IsLimit macros) (within outer) (at_all outer) (up_to outer) tokens rest
 
   no_byte_starts : (bytes : List ℕ) → starts none bytes ≡ false
   no_byte_starts [] = refl
@@ -301,7 +302,7 @@ module _ (close : ℕ) (real : IsByte close) where
       by (Deep is same deep) again = kept_deep b bytes outer is front t r s o e h
       by (On next is moves apart stay) again = kept_on b bytes outer next (stay few) is (again next (stay few)) front t r s o e h
 
-  pub enclosed_part : Part IsByte IsLimit (within 0) (at_all 0) Always (read_up_to close 1)
+  pub enclosed_part : Part IsByte (IsLimit macros) (within 0) (at_all 0) Always (read_up_to close 1)
   unfolding nothing_yet
   enclosed_part = record {
     reads = λ tokens. record {

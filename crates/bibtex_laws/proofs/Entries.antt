@@ -1,28 +1,26 @@
 -- The parts for what a word behind `@` begins.
-use Rattle.std.proofs.Common.{◌≡◌, ◌+◌, ◌<◌, ℕ, Bool, true, false, List, [], ◌∷◌, ◌++◌, Option, Some, None, refl, sym, ap, subst, ◌∙◌, append_assoc, inl, inr, arith}
-use Rattle.std.specs.Prelude.{◌⊎◌, nat_eq, map, codes, if◌then◌else◌}
-use Rattle.std.specs.Str.{bytes_eq}
+use Rattle.std.proofs.Common.{◌≡◌, ◌+◌, ℕ, Bool, true, false, List, [], ◌∷◌, ◌++◌, Some, None, refl, sym, ap, subst, ◌∙◌, append_assoc, inl, inr, arith}
+use Rattle.std.specs.Prelude.{◌⊎◌, nat_eq, map, if◌then◌else◌}
 use Rattle.std.proofs.lemmas.List.{append-nil, append_cancel_right}
 use Rattle.std.proofs.lemmas.Bool.{eqb-true}
 use Rattle.std.proofs.lemmas.Bool.Decides.{nat_tests}
 use Rattle.grammar.specs.Fault.{Every}
 use Rattle.grammar.specs.Grammar.{nothing, one, ◌>>=◌, ◌>>◌}
 use Rattle.grammar.specs.Reading.{Outcome, Read, Stuck, Past, and_then, starts, choose, take_one}
-use Rattle.grammar.proofs.Laws.{Always, Stops}
+use Rattle.grammar.proofs.Laws.{Stops}
 use Rattle.grammar.proofs.Parts.{Opens, opens_one, opens_then}
 use Rattle.bibtex_laws.specs.Past.{IsPastAt}
-use Rattle.bibtex_laws.proofs.Laws.{End, Value, Unexpected, answer, Reads, no_front}
+use Rattle.bibtex_laws.proofs.Laws.{End, Value, Unexpected, answer, no_front}
 use Rattle.bibtex_laws.proofs.Parts.{Part, part_within, give_part, weaken_part, then_part, then_opens}
-use Rattle.bibtex_spec.specs.Bytes.{is_blank, is_letter, is_name_byte, is_key_byte, is_junk, lower, run, behind}
+use Rattle.bibtex_spec.specs.Bytes.{is_blank, is_letter, is_key_byte, is_junk, lower, run, behind, begins_name}
 use Rattle.bibtex_spec.specs.Macros.{MacroTexts}
 use Rattle.bibtex_spec.specs.Reading.{stuck, same_byte, closing, read_mark, read_open, read_name, read_key, read_value, read_fields}
-use Rattle.bibtex_spec.specs.declared.Field.{Field}
-use Rattle.bibtex_laws.specs.Grammar.{Rules, strict, free, Phrase, Passing, Defining, Entering, each, mark, opening, name, key, value, fields, blanks, gap, sized, closed, comment, definition, preamble, entry, Kind, OfComment, OfDefinition, OfPreamble, OfEntry, kind_of, of_kind, behind_word, item, word, lower_word}
+use Rattle.bibtex_laws.specs.Grammar.{Rules, strict, free, Phrase, Passing, Defining, Entering, each, mark, opening, name, key, value, fields, gap, closed, comment, definition, preamble, entry, Kind, OfComment, OfDefinition, OfPreamble, OfEntry, kind_of, of_kind, behind_word, item, word, lower_word}
 use Rattle.bibtex_laws.specs.Limits.{IsByte, IsLimit, none}
 use Rattle.bibtex_laws.proofs.Words.{Clear, each_part, blanks_part, run_parts, run_every, run_exact, behind_stops, read_word, mapped_word_part}
-use Rattle.bibtex_laws.proofs.Marks.{byte_part, mark_part, opening_part, name_part, key_part, mark_opens, same_byte_is, not_blank, letter_apart, key_apart}
-use Rattle.bibtex_laws.proofs.Pieces.{name_opens, word_opens, not_in, starts_none}
-use Rattle.bibtex_laws.proofs.Values.{Done, next_to, clear_byte, value_part, value_begins}
+use Rattle.bibtex_laws.proofs.Marks.{byte_part, mark_part, opening_part, name_part, key_part, mark_opens, same_byte_is, not_blank, letter_apart, key_apart, begin_apart}
+use Rattle.bibtex_laws.proofs.Pieces.{name_opens, word_opens, not_in}
+use Rattle.bibtex_laws.proofs.Values.{next_to, clear_byte, value_part, value_begins}
 use Rattle.bibtex_laws.proofs.Fields.{Shut, fields_part, fields_in, fields_follow}
 use Rattle.bibtex_laws.proofs.Known.{then_known, read_sized, sized_part}
 
@@ -83,8 +81,8 @@ comment_local tokens false is front t r s (Value v) e h =
     let stops : is_junk t ≡ false = ap (starts is_junk) (sym left) ∙ behind_stops is_junk tokens in
     comment_complete (front ++ (t ∷ s)) front v (t ∷ s) refl (subst (λ x. comment x v) same a.2) stops
 
-pub comment_part : Part IsByte IsLimit comment comment (Stops is_junk) comment_reader
-comment_part = record {
+pub comment_part : {Why : List ℕ → (ℕ → Bool) → Type 0} → Part IsByte Why comment comment (Stops is_junk) comment_reader
+comment_part {Why} = record {
   reads = λ tokens. record {
     core = record {
       sound = comment_sound tokens (starts is_letter tokens) refl;
@@ -103,7 +101,7 @@ comment_part = record {
     by_viable tokens true is rest e = let h : Stuck tokens ≡ Stuck rest = sym (rw is refl) ∙ e in ([], [], Passing, cc, (refl, tt, refl), tt)
     by_viable tokens false is rest e = let h : Read Passing (behind is_junk tokens) ≡ Stuck rest = sym (rw is refl) ∙ e in absurd cc
 
-    by_past : (tokens : List ℕ) (p : Bool) → starts is_letter tokens ≡ p → (rest : List ℕ) → comment_reader tokens ≡ Past rest → IsPastAt IsByte IsLimit comment comment comment_reader tokens rest
+    by_past : (tokens : List ℕ) (p : Bool) → starts is_letter tokens ≡ p → (rest : List ℕ) → comment_reader tokens ≡ Past rest → IsPastAt IsByte Why comment comment comment_reader tokens rest
     by_past tokens true is rest e = let h : Stuck tokens ≡ Past rest = sym (rw is refl) ∙ e in absurd cc
     by_past tokens false is rest e = let h : Read Passing (behind is_junk tokens) ≡ Past rest = sym (rw is refl) ∙ e in absurd cc
 
@@ -141,22 +139,22 @@ opening_opens W brace round = opens_then (one closing) _ W (opens_one closing W 
 abbrev pub closed_reader : {A : Type 0} → ℕ → A → List ℕ → Outcome ℕ A
 closed_reader close v ts = and_then (take_one true (same_byte close) ts) (λ _ rest. Read v (behind is_junk rest))
 
-junk_then : {A : Type 0} (v : A) → Part IsByte IsLimit (each is_junk >> nothing v) (each is_junk >> nothing v) (Stops is_junk) (λ ts. Read v (behind is_junk ts))
+junk_then : {A : Type 0} {Why : List ℕ → (ℕ → Bool) → Type 0} (v : A) → Part IsByte Why (each is_junk >> nothing v) (each is_junk >> nothing v) (Stops is_junk) (λ ts. Read v (behind is_junk ts))
 junk_then v = then_part (each_part is_junk) (λ _. weaken_part (Stops is_junk) (λ _ _. tt) (give_part v)) (λ _ y w rest h f. next_to (Stops is_junk) y rest h.0 f)
 
 module _ {A : Type 0} (close : ℕ) (v : A) where
   pub closed_opens : (W : ℕ → Type 0) → W close → Opens (closed close v) W
   closed_opens W here = opens_then (one (same_byte close)) _ W (opens_one (same_byte close) W (λ t v e. subst W (sym (same_byte_is close t v e).0) here))
 
-  pub closed_part : IsClosing close → Part IsByte IsLimit (closed close v) (closed close v) (Stops is_junk) (closed_reader close v)
+  pub closed_part : {Why : List ℕ → (ℕ → Bool) → Type 0} → IsClosing close → Part IsByte Why (closed close v) (closed close v) (Stops is_junk) (closed_reader close v)
   closed_part is = then_part (byte_part close (at_closing IsByte (omega arith) (omega arith) close is)) (λ _. junk_then v) (λ _ _ _ _ _ _. tt)
 
 -- behind blanks, or none
 pub behind_clear : {A : Type 0} (V : List ℕ → A → Type 0) → Opens V (λ t. is_blank t ≡ false) → (y : List ℕ) (w : A) (rest : List ℕ) → V y w → Clear none (y ++ rest)
 behind_clear V opens y w rest h = let o = opens y w h in subst (λ x. Clear none (x ++ rest)) (sym o.2) (refl, o.3)
 
-at_shut : (t : ℕ) (later : List ℕ) → IsClosing t → Shut (t ∷ later)
-at_shut t later is = at_closing (λ b. Shut (b ∷ later)) (((refl, refl), refl), refl) (((refl, refl), refl), refl) t is
+at_shut : (wide : Bool) (t : ℕ) (later : List ℕ) → IsClosing t → Shut wide (t ∷ later)
+at_shut wide t later is = at_closing (λ b. Shut wide (b ∷ later)) (((refl, refl), refl), refl) (((refl, refl), refl), refl) t is
 
 at_key_end : (t : ℕ) (later : List ℕ) → IsClosing t → Clear is_key_byte (t ∷ later)
 at_key_end t later is = at_closing (λ b. Clear is_key_byte (b ∷ later)) (refl, refl) (refl, refl) t is
@@ -172,7 +170,7 @@ head = mark 64 >> lower_word is_letter is_letter
 abbrev pub head_reader : List ℕ → Outcome ℕ (List ℕ)
 head_reader ts = and_then (read_mark 64 ts) (λ _. read_word is_letter is_letter (map lower) (λ b is. is))
 
-pub head_part : Part IsByte IsLimit head head (Stops is_letter) head_reader
+pub head_part : {Why : List ℕ → (ℕ → Bool) → Type 0} → Part IsByte Why head head (Stops is_letter) head_reader
 head_part =
     then_opens (λ t. is_blank t ≡ false) (mark_part 64 (omega arith)) (λ _. mapped_word_part is_letter is_letter (map lower) (λ b is. is) 97 refl (omega arith))
     (λ _. word_opens is_letter is_letter (map lower) (λ t. is_blank t ≡ false) (not_blank is_letter letter_apart)) (λ t later is. (refl, is))
@@ -181,31 +179,31 @@ module _ (macros : MacroTexts) where
   -- a macro's definition
 
   abbrev defined : Rules → ℕ → List ℕ → Phrase → Type 0
-  defined rules close = name >>= λ word. mark 61 >> (value rules >>= λ text. closed close (Defining word text))
+  defined rules close = name rules.wide >>= λ word. mark 61 >> (value rules >>= λ text. closed close (Defining word text))
 
   abbrev pub defined_reader : ℕ → List ℕ → Outcome ℕ Phrase
-  defined_reader close ts = and_then (read_name ts) (λ word ts. and_then (read_mark 61 ts) (λ _ ts. and_then (read_value macros ts) (λ text. closed_reader close (Defining word text))))
+  defined_reader close ts = and_then (read_name macros.stand ts) (λ word ts. and_then (read_mark 61 ts) (λ _ ts. and_then (read_value macros ts) (λ text. closed_reader close (Defining word text))))
 
-  defined_part : (close : ℕ) → IsClosing close → Part IsByte IsLimit (defined (strict macros) close) (defined (free macros) close) (Stops is_junk) (defined_reader close)
+  defined_part : (close : ℕ) → IsClosing close → Part IsByte (IsLimit macros) (defined (strict macros) close) (defined (free macros) close) (Stops is_junk) (defined_reader close)
   defined_part close is =
-      then_opens (λ t. nat_eq 61 t ≡ true) name_part
+      then_opens (λ t. nat_eq 61 t ≡ true) (name_part macros.stand)
       (λ word. then_opens (λ t. is_blank t ≡ false) (mark_part 61 (omega arith))
-      (λ _. then_opens IsClosing (value_part macros) (λ text. closed_part close (Defining word text) is) (λ text. closed_opens close (Defining word text) IsClosing is) (λ t later k. (at_shut t later k).0))
+      (λ _. then_opens IsClosing (value_part macros) (λ text. closed_part close (Defining word text) is) (λ text. closed_opens close (Defining word text) IsClosing is) (λ t later k. (at_shut macros.stand t later k).0))
       (λ _. opens_then (value (free macros)) _ (λ t. is_blank t ≡ false) (value_begins macros))
       (λ t later k. (refl, k)))
       (λ word. opens_then (mark 61) _ (λ t. nat_eq 61 t ≡ true) (mark_opens 61 (λ t. nat_eq 61 t ≡ true) refl))
-      (clear_byte 61 refl refl)
+      (clear_byte macros.stand 61 refl refl)
 
   defined_in : (close : ℕ) (x : List ℕ) (w : Phrase) → defined (strict macros) close x w → defined (free macros) close x w
   defined_in close x w h = (h.0, h.1, h.2, h.3, h.4, (h.5.0, h.5.1, h.5.2, h.5.3, h.5.4, (h.5.5.0, h.5.5.1, h.5.5.2, h.5.5.3, part_within (value_part macros) h.5.5.0 h.5.5.2 h.5.5.4, h.5.5.5)))
 
   defined_begins : (close : ℕ) → Opens (defined (free macros) close) (λ t. is_blank t ≡ false)
-  defined_begins close = opens_then name _ (λ t. is_blank t ≡ false) (name_opens (λ t. is_blank t ≡ false) (not_blank is_letter letter_apart))
+  defined_begins close = opens_then (name macros.stand) _ (λ t. is_blank t ≡ false) (name_opens macros.stand (λ t. is_blank t ≡ false) (not_blank (begins_name macros.stand) (begin_apart macros.stand)))
 
   abbrev pub definition_reader : List ℕ → Outcome ℕ Phrase
   definition_reader ts = and_then (Read (tt {0}) (behind is_blank ts)) (λ _ ts. and_then (read_open ts) defined_reader)
 
-  pub definition_part : Part IsByte IsLimit (definition (strict macros)) (definition (free macros)) (Stops is_junk) definition_reader
+  pub definition_part : Part IsByte (IsLimit macros) (definition (strict macros)) (definition (free macros)) (Stops is_junk) definition_reader
   definition_part =
       then_opens (λ t. is_blank t ≡ false) (blanks_part (tt {0}))
       (λ _. then_known IsClosing opening_closes opening_part defined_part defined_in (λ close is y w rest h f. behind_clear (defined (free macros) close) (defined_begins close) y w rest h))
@@ -220,8 +218,8 @@ module _ (macros : MacroTexts) where
   abbrev pub passed_reader : ℕ → List ℕ → Outcome ℕ Phrase
   passed_reader close ts = and_then (read_value macros ts) (λ _. closed_reader close Passing)
 
-  passed_part : (close : ℕ) → IsClosing close → Part IsByte IsLimit (passed (strict macros) close) (passed (free macros) close) (Stops is_junk) (passed_reader close)
-  passed_part close is = then_opens IsClosing (value_part macros) (λ _. closed_part close Passing is) (λ _. closed_opens close Passing IsClosing is) (λ t later k. (at_shut t later k).0)
+  passed_part : (close : ℕ) → IsClosing close → Part IsByte (IsLimit macros) (passed (strict macros) close) (passed (free macros) close) (Stops is_junk) (passed_reader close)
+  passed_part close is = then_opens IsClosing (value_part macros) (λ _. closed_part close Passing is) (λ _. closed_opens close Passing IsClosing is) (λ t later k. (at_shut macros.stand t later k).0)
 
   passed_in : (close : ℕ) (x : List ℕ) (w : Phrase) → passed (strict macros) close x w → passed (free macros) close x w
   passed_in close x w h = (h.0, h.1, h.2, h.3, part_within (value_part macros) h.0 h.2 h.4, h.5)
@@ -229,7 +227,7 @@ module _ (macros : MacroTexts) where
   abbrev pub preamble_reader : List ℕ → Outcome ℕ Phrase
   preamble_reader ts = and_then (Read (tt {0}) (behind is_blank ts)) (λ _ ts. and_then (read_open ts) passed_reader)
 
-  pub preamble_part : Part IsByte IsLimit (preamble (strict macros)) (preamble (free macros)) (Stops is_junk) preamble_reader
+  pub preamble_part : Part IsByte (IsLimit macros) (preamble (strict macros)) (preamble (free macros)) (Stops is_junk) preamble_reader
   preamble_part =
       then_opens (λ t. is_blank t ≡ false) (blanks_part (tt {0}))
       (λ _. then_known IsClosing opening_closes opening_part passed_part passed_in
@@ -239,7 +237,7 @@ module _ (macros : MacroTexts) where
 
   -- an entry
 
-  pub start_part : Part IsByte IsLimit (gap >> opening) (gap >> opening) (Clear none) (λ ts. and_then (Read (tt {0}) (behind is_blank ts)) (λ _. read_open))
+  pub start_part : Part IsByte (IsLimit macros) (gap >> opening) (gap >> opening) (Clear none) (λ ts. and_then (Read (tt {0}) (behind is_blank ts)) (λ _. read_open))
   start_part = then_opens (λ t. is_blank t ≡ false) (blanks_part (tt {0})) (λ _. opening_part) (λ _. opening_begins) (λ t later is. is)
 
   abbrev entered : Rules → List ℕ → ℕ → ℕ × ℕ → List ℕ → Phrase → Type 0
@@ -258,10 +256,10 @@ module _ (macros : MacroTexts) where
         let last : Clear is_key_byte (h.1 ++ rest) = subst (λ x. Clear is_key_byte (x ++ rest)) (sym o.2) (at_key_end o.0 (o.1 ++ rest) o.3) in
         subst (Clear is_key_byte) (sym (ap (λ x. x ++ rest) h.3 ∙ append_assoc h.0 h.1 rest)) (fields_follow macros (Clear is_key_byte) (λ later. (refl, refl)) h.0 h.2 (h.1 ++ rest) h.4 last)
 
-    entered_part : (start : ℕ × ℕ) → IsClosing start.0 → Part IsByte IsLimit (entered (strict macros) class before start) (entered (free macros) class before start) (Stops is_junk) (entered_reader class before start)
+    entered_part : (start : ℕ × ℕ) → IsClosing start.0 → Part IsByte (IsLimit macros) (entered (strict macros) class before start) (entered (free macros) class before start) (Stops is_junk) (entered_reader class before start)
     entered_part start is =
         then_part key_part
-        (λ word. then_opens IsClosing (fields_part macros) (λ found. closed_part start.0 (Entering (before + start.1) class word found) is) (λ found. closed_opens start.0 (Entering (before + start.1) class word found) IsClosing is) at_shut)
+        (λ word. then_opens IsClosing (fields_part macros) (λ found. closed_part start.0 (Entering (before + start.1) class word found) is) (λ found. closed_opens start.0 (Entering (before + start.1) class word found) IsClosing is) (at_shut macros.stand))
         (λ word y w rest h f. key_ends start is word y w rest h)
 
     entered_in : (start : ℕ × ℕ) (x : List ℕ) (w : Phrase) → entered (strict macros) class before start x w → entered (free macros) class before start x w
@@ -276,7 +274,7 @@ module _ (macros : MacroTexts) where
     abbrev pub entry_reader : List ℕ → Outcome ℕ Phrase
     entry_reader ts = and_then (read_sized start_part ts) (entered_reader class before)
 
-    pub entry_part : Part IsByte IsLimit (entry (strict macros) class before) (entry (free macros) class before) (Stops is_junk) entry_reader
+    pub entry_part : Part IsByte (IsLimit macros) (entry (strict macros) class before) (entry (free macros) class before) (Stops is_junk) entry_reader
     entry_part =
         then_known (λ start. IsClosing start.0) (λ x start h. opening_closes h.0.1 start.0 h.0.5) (sized_part start_part) entered_part entered_in
         (λ start is y w rest h f. behind_clear (entered (free macros) class before start) (entered_begins start) y w rest h)
@@ -292,13 +290,13 @@ module _ (macros : MacroTexts) where
   abbrev pub behind_reader : List ℕ → ℕ → List ℕ → Outcome ℕ Phrase
   behind_reader class before = reader_of (kind_of class) class before
 
-  of_kind_part : (kind : Kind) (class : List ℕ) (before : ℕ) → Part IsByte IsLimit (of_kind kind (strict macros) class before) (of_kind kind (free macros) class before) (Stops is_junk) (reader_of kind class before)
+  of_kind_part : (kind : Kind) (class : List ℕ) (before : ℕ) → Part IsByte (IsLimit macros) (of_kind kind (strict macros) class before) (of_kind kind (free macros) class before) (Stops is_junk) (reader_of kind class before)
   of_kind_part OfComment class before = comment_part
   of_kind_part OfDefinition class before = definition_part
   of_kind_part OfPreamble class before = preamble_part
   of_kind_part OfEntry class before = entry_part class before
 
-  pub behind_part : (class : List ℕ) (before : ℕ) → Part IsByte IsLimit (behind_word (strict macros) class before) (behind_word (free macros) class before) (Stops is_junk) (behind_reader class before)
+  pub behind_part : (class : List ℕ) (before : ℕ) → Part IsByte (IsLimit macros) (behind_word (strict macros) class before) (behind_word (free macros) class before) (Stops is_junk) (behind_reader class before)
   behind_part class before = of_kind_part (kind_of class) class before
 
   -- no letter is first behind a word
@@ -324,9 +322,9 @@ module _ (macros : MacroTexts) where
   -- an item
 
   abbrev pub item_reader : ℕ → List ℕ → Outcome ℕ Phrase
-  item_reader at ts = and_then (read_sized head_part ts) (λ start. behind_reader start.0 (at + start.1))
+  item_reader at ts = and_then (read_sized (head_part {Why = IsLimit macros}) ts) (λ start. behind_reader start.0 (at + start.1))
 
-  pub item_part : (at : ℕ) → Part IsByte IsLimit (item (strict macros) at) (item (free macros) at) (Stops is_junk) (item_reader at)
+  pub item_part : (at : ℕ) → Part IsByte (IsLimit macros) (item (strict macros) at) (item (free macros) at) (Stops is_junk) (item_reader at)
   item_part at =
       then_part (sized_part head_part) (λ start. behind_part start.0 (at + start.1))
       (λ start y w rest h f. unlettered_by (kind_of start.0) start.0 (at + start.1) y w rest h f)

@@ -2,36 +2,35 @@
 use Rattle.std.proofs.Common.{◌≡◌, ◌<◌, ◌≤◌, ℕ, zero, suc, Bool, true, false, List, [], ◌∷◌, ◌++◌, length, length-append, refl, sym, ap, subst, ◌∙◌, append_assoc, inl, inr, arith}
 use Rattle.std.specs.Prelude.{◌⊎◌, nat_eq}
 use Rattle.std.proofs.lemmas.List.{append-nil}
-use Rattle.grammar.specs.Fault.{Every}
 use Rattle.grammar.specs.Grammar.{nothing, ◌>>=◌, ◌>>◌, either, many}
 use Rattle.grammar.specs.Reading.{Outcome, Read, Stuck, Past, and_then, starts, choose}
 use Rattle.grammar.proofs.Parts.{Opens, opens_then, first_is}
 use Rattle.bibtex_laws.proofs.Laws.{Reads, weaken, restate, give_reads, then_reads, choose_reads}
 use Rattle.bibtex_laws.proofs.Parts.{Part, part_within}
 use Rattle.bibtex_spec.specs.declared.Field.{Field}
-use Rattle.bibtex_spec.specs.Bytes.{is_blank, is_letter, is_name_byte}
+use Rattle.bibtex_spec.specs.Bytes.{is_name_byte, begins_name}
 use Rattle.bibtex_spec.specs.Macros.{MacroTexts}
 use Rattle.bibtex_spec.specs.Reading.{read_mark, read_field, listed, read_fields}
 use Rattle.bibtex_laws.specs.Grammar.{Rules, strict, free, mark, field, fields}
 use Rattle.bibtex_laws.specs.Limits.{IsByte, IsLimit, none}
 use Rattle.bibtex_laws.proofs.Words.{Clear}
-use Rattle.bibtex_laws.proofs.Marks.{mark_part, mark_opens, not_blank, letter_apart, letter_in_name}
+use Rattle.bibtex_laws.proofs.Marks.{mark_part, mark_opens, not_blank, begin_apart, begins_in_name}
 use Rattle.bibtex_laws.proofs.Pieces.{not_in, starts_none}
 use Rattle.bibtex_laws.proofs.Values.{Done, next_to, field_part, field_opens}
 
 -- what may stand behind fields: as behind a value, and no comma
-abbrev pub Shut : List ℕ → Type 0
-Shut rest = Done rest × (starts (nat_eq 44) rest ≡ false)
+abbrev pub Shut : Bool → List ℕ → Type 0
+Shut wide rest = Done wide rest × (starts (nat_eq 44) rest ≡ false)
 
 module _ (macros : MacroTexts) where
   abbrev after_comma : (List ℕ → Outcome ℕ (List Field)) → List ℕ → Outcome ℕ (List Field)
-  after_comma again = choose is_letter (λ ts. and_then (read_field macros ts) (λ f rest. and_then (again rest) (λ fs last. Read (f ∷ fs) last))) (λ ts. Read [] ts)
+  after_comma again = choose (begins_name macros.stand) (λ ts. and_then (read_field macros ts) (λ f rest. and_then (again rest) (λ fs last. Read (f ∷ fs) last))) (λ ts. Read [] ts)
 
   -- a comma, and behind it a field or nothing
   abbrev turn : (List ℕ → Outcome ℕ (List Field)) → List ℕ → Outcome ℕ (List Field)
   turn again = choose (nat_eq 44) (λ ts. and_then (read_mark 44 ts) (λ _ rest. after_comma again rest)) (λ ts. Read [] ts)
 
-  comma : Part IsByte IsLimit (mark 44) (mark 44) (Clear none) (read_mark 44)
+  comma : Part IsByte (IsLimit macros) (mark 44) (mark 44) (Clear none) (read_mark 44)
   comma = mark_part 44 (omega arith)
 
   comma_shrinks : (ts : List ℕ) (v : ℕ) (rest : List ℕ) → read_mark 44 ts ≡ Read v rest → length rest < length ts
@@ -45,7 +44,7 @@ module _ (macros : MacroTexts) where
       let a = ((field_part macros).reads ts).core.sound v rest e in
       omega (arith, ap length a.1, length-append a.0 rest)
 
-  same_field : (n m : List ℕ → Outcome ℕ (List Field)) (ts : List ℕ) (b : Bool) (o : Outcome ℕ Field) → starts is_letter ts ≡ b → read_field macros ts ≡ o → ((f : Field) (rest : List ℕ) → o ≡ Read f rest → n rest ≡ m rest) → after_comma n ts ≡ after_comma m ts
+  same_field : (n m : List ℕ → Outcome ℕ (List Field)) (ts : List ℕ) (b : Bool) (o : Outcome ℕ Field) → starts (begins_name macros.stand) ts ≡ b → read_field macros ts ≡ o → ((f : Field) (rest : List ℕ) → o ≡ Read f rest → n rest ≡ m rest) → after_comma n ts ≡ after_comma m ts
   same_field n m ts false o is was same = rw is refl
   same_field n m ts true (Stuck rest) is was same = rw (is, was) refl
   same_field n m ts true (Past rest) is was same = rw (is, was) refl
@@ -58,7 +57,7 @@ module _ (macros : MacroTexts) where
   same_turn n m ts true (Read v inner) is was same =
       let less = comma_shrinks ts v inner was in
       let inside : after_comma n inner ≡ after_comma m inner =
-      same_field n m inner (starts is_letter inner) (read_field macros inner) refl refl
+      same_field n m inner (starts (begins_name macros.stand) inner) (read_field macros inner) refl refl
       (λ f rest e. let few = field_shrinks inner f rest e in same rest (omega (arith, less, few))) in
       rw (is, was) inside
 
@@ -156,7 +155,7 @@ module _ (macros : MacroTexts) where
       by (inl none) = next_to G x rest none g
       by (inr some) = subst (λ y. G (y ++ rest)) (sym some.1) (may (some.0 ++ rest))
 
-  done_comma : (later : List ℕ) → Done (44 ∷ later)
+  done_comma : (later : List ℕ) → (Done macros.stand) (44 ∷ later)
   done_comma later = ((refl, refl), refl)
 
   -- its laws, by the length of what is to be read
@@ -175,11 +174,11 @@ module _ (macros : MacroTexts) where
   perhaps_in x vs (inl h) = inl (begun_in x vs h)
   perhaps_in x vs (inr h) = inr h
 
-  begun_opens : Opens (begun (free macros)) (λ t. is_letter t ≡ true)
-  begun_opens = opens_then (field (free macros)) _ (λ t. is_letter t ≡ true) (field_opens macros)
+  begun_opens : Opens (begun (free macros)) (λ t. begins_name macros.stand t ≡ true)
+  begun_opens = opens_then (field (free macros)) _ (λ t. begins_name macros.stand t ≡ true) (field_opens macros)
 
   abbrev Law : (List ℕ → List Field → Type 0) → (List ℕ → List Field → Type 0) → (List ℕ → Outcome ℕ (List Field)) → List ℕ → Type 0
-  Law P U read tokens = Reads IsByte IsLimit P U Shut read tokens
+  Law P U read tokens = Reads IsByte (IsLimit macros) P U (Shut macros.stand) read tokens
 
   abbrev Fields_read : List ℕ → Type 0
   Fields_read tokens = Law (fields (strict macros)) (fields (free macros)) (read_fields macros) tokens
@@ -189,10 +188,10 @@ module _ (macros : MacroTexts) where
 
   one_more : (f : Field) (r : List ℕ) → Fields_read r
       → Law (fields (strict macros) >>= λ fs. nothing (f ∷ fs)) (fields (free macros) >>= λ fs. nothing (f ∷ fs)) (λ ts. and_then (read_fields macros ts) (λ fs last. Read (f ∷ fs) last)) r
-  one_more f r again = then_reads IsByte IsLimit (fields (strict macros)) (fields (free macros)) (λ fs. nothing (f ∷ fs)) (λ fs. nothing (f ∷ fs)) Shut Shut (read_fields macros) (λ fs last. Read (f ∷ fs) last) r again
-      (λ fs last _. weaken Shut (λ _ _. tt) (give_reads (f ∷ fs) last))
+  one_more f r again = then_reads IsByte (IsLimit macros) (fields (strict macros)) (fields (free macros)) (λ fs. nothing (f ∷ fs)) (λ fs. nothing (f ∷ fs)) (Shut macros.stand) (Shut macros.stand) (read_fields macros) (λ fs last. Read (f ∷ fs) last) r again
+      (λ fs last _. weaken (Shut macros.stand) (λ _ _. tt) (give_reads (f ∷ fs) last))
       (λ fs x w h. h)
-      (λ fs x y w rest _ h g. next_to Shut y rest h.0 g)
+      (λ fs x y w rest _ h g. next_to (Shut macros.stand) y rest h.0 g)
       (λ fs x _. ([], f ∷ fs, (refl, refl), tt))
       (λ fs x _. ([], f ∷ fs, (refl, refl), tt))
 
@@ -202,34 +201,34 @@ module _ (macros : MacroTexts) where
   begun_read : (tokens : List ℕ) → ((r : List ℕ) → length r ≤ length tokens → Fields_read r)
       → Law (begun (strict macros)) (begun (free macros)) (λ ts. and_then (read_field macros ts) (λ f rest. and_then (read_fields macros rest) (λ fs last. Read (f ∷ fs) last))) tokens
   begun_read tokens again =
-      then_reads IsByte IsLimit (field (strict macros)) (field (free macros)) (λ f. fields (strict macros) >>= λ fs. nothing (f ∷ fs)) (λ f. fields (free macros) >>= λ fs. nothing (f ∷ fs)) Done Shut (read_field macros) (λ f rest. and_then (read_fields macros rest) (λ fs last. Read (f ∷ fs) last)) tokens ((field_part macros).reads tokens)
+      then_reads IsByte (IsLimit macros) (field (strict macros)) (field (free macros)) (λ f. fields (strict macros) >>= λ fs. nothing (f ∷ fs)) (λ f. fields (free macros) >>= λ fs. nothing (f ∷ fs)) (Done macros.stand) (Shut macros.stand) (read_field macros) (λ f rest. and_then (read_fields macros rest) (λ fs last. Read (f ∷ fs) last)) tokens ((field_part macros).reads tokens)
       (λ f r was. one_more f r (again r (field_shrinks tokens f r was)))
       (λ f x w h. (h.0, h.1, h.2, h.3, fields_in h.0 h.2 h.4, h.5))
-      (λ f x y w rest _ h g. subst (λ z. Done (z ++ rest)) (sym (h.3 ∙ ap (λ z. h.0 ++ z) h.5.0 ∙ append-nil h.0)) (fields_follow Done done_comma h.0 h.2 rest h.4 g.0))
+      (λ f x y w rest _ h g. subst (λ z. (Done macros.stand) (z ++ rest)) (sym (h.3 ∙ ap (λ z. h.0 ++ z) h.5.0 ∙ append-nil h.0)) (fields_follow (Done macros.stand) done_comma h.0 h.2 rest h.4 g.0))
       (λ f x _. ([], f ∷ [], last_part (strict macros) f, tt))
       (λ f x _. ([], f ∷ [], last_part (free macros) f, tt))
 
-  no_letter : (rest : List ℕ) → Shut rest → starts is_letter rest ≡ false
-  no_letter rest g = not_in is_letter is_name_byte letter_in_name rest g.0.0.0
+  no_letter : (rest : List ℕ) → (Shut macros.stand) rest → starts (begins_name macros.stand) rest ≡ false
+  no_letter rest g = not_in (begins_name macros.stand) (is_name_byte macros.stand) (begins_in_name macros.stand) rest g.0.0.0
 
   perhaps_read : (tokens : List ℕ) → ((r : List ℕ) → length r ≤ length tokens → Fields_read r) → Law (perhaps (strict macros)) (perhaps (free macros)) (after_comma (read_fields macros)) tokens
   perhaps_read tokens again =
-      choose_reads IsByte IsLimit is_letter (begun (strict macros)) (begun (free macros)) (nothing []) (nothing []) Shut (λ ts. and_then (read_field macros ts) (λ f rest. and_then (read_fields macros rest) (λ fs last. Read (f ∷ fs) last))) (λ ts. Read [] ts) tokens
+      choose_reads IsByte (IsLimit macros) (begins_name macros.stand) (begun (strict macros)) (begun (free macros)) (nothing []) (nothing []) (Shut macros.stand) (λ ts. and_then (read_field macros ts) (λ f rest. and_then (read_fields macros rest) (λ fs last. Read (f ∷ fs) last))) (λ ts. Read [] ts) tokens
       begun_in (λ x v h. h)
       (λ _. begun_read tokens again)
-      (λ _. weaken Shut (λ _ _. tt) (give_reads [] tokens))
-      (first_is (begun (free macros)) is_letter true begun_opens)
-      (λ x v rest h g. next_to (λ y. starts is_letter y ≡ false) x rest h.0 (no_letter rest g))
+      (λ _. weaken (Shut macros.stand) (λ _ _. tt) (give_reads [] tokens))
+      (first_is (begun (free macros)) (begins_name macros.stand) true begun_opens)
+      (λ x v rest h g. next_to (λ y. starts (begins_name macros.stand) y ≡ false) x rest h.0 (no_letter rest g))
 
-  perhaps_follow : (y : List ℕ) (w : List Field) (rest : List ℕ) → perhaps (free macros) y w → Shut rest → Clear none (y ++ rest)
+  perhaps_follow : (y : List ℕ) (w : List Field) (rest : List ℕ) → perhaps (free macros) y w → (Shut macros.stand) rest → Clear none (y ++ rest)
   perhaps_follow y w rest (inr h) g = next_to (Clear none) y rest h.0 (starts_none rest, g.0.0.1)
   perhaps_follow y w rest (inl h) g =
       let o = begun_opens y w h in
-      subst (λ x. Clear none (x ++ rest)) (sym o.2) (refl, not_blank is_letter letter_apart o.0 o.3)
+      subst (λ x. Clear none (x ++ rest)) (sym o.2) (refl, not_blank (begins_name macros.stand) (begin_apart macros.stand) o.0 o.3)
 
   comma_read : (tokens : List ℕ) → ((r : List ℕ) → length r < length tokens → Fields_read r) → Law (mark 44 >> perhaps (strict macros)) (mark 44 >> perhaps (free macros)) (λ ts. and_then (read_mark 44 ts) (λ _ rest. after_comma (read_fields macros) rest)) tokens
   comma_read tokens again =
-      then_reads IsByte IsLimit (mark 44) (mark 44) (λ _. perhaps (strict macros)) (λ _. perhaps (free macros)) (Clear none) Shut (read_mark 44) (λ _ rest. after_comma (read_fields macros) rest) tokens (comma.reads tokens)
+      then_reads IsByte (IsLimit macros) (mark 44) (mark 44) (λ _. perhaps (strict macros)) (λ _. perhaps (free macros)) (Clear none) (Shut macros.stand) (read_mark 44) (λ _ rest. after_comma (read_fields macros) rest) tokens (comma.reads tokens)
       (λ v r was. let less = comma_shrinks tokens v r was in perhaps_read r (λ s few. again s (omega (arith, less, few))))
       (λ v x w h. perhaps_in x w h)
       (λ v x y w rest _ h g. perhaps_follow y w rest h g)
@@ -239,10 +238,10 @@ module _ (macros : MacroTexts) where
   one_turn : (tokens : List ℕ) → ((r : List ℕ) → length r < length tokens → Fields_read r) → Fields_read tokens
   one_turn tokens again =
       restate (fields (strict macros)) (fields (free macros)) (read_fields macros) (to_fields (strict macros)) (from_fields (strict macros)) (to_fields (free macros)) (from_fields (free macros)) fields_turn
-      (choose_reads IsByte IsLimit (nat_eq 44) (mark 44 >> perhaps (strict macros)) (mark 44 >> perhaps (free macros)) (nothing []) (nothing []) Shut (λ ts. and_then (read_mark 44 ts) (λ _ rest. after_comma (read_fields macros) rest)) (λ ts. Read [] ts) tokens
+      (choose_reads IsByte (IsLimit macros) (nat_eq 44) (mark 44 >> perhaps (strict macros)) (mark 44 >> perhaps (free macros)) (nothing []) (nothing []) (Shut macros.stand) (λ ts. and_then (read_mark 44 ts) (λ _ rest. after_comma (read_fields macros) rest)) (λ ts. Read [] ts) tokens
       (λ x v h. (h.0, h.1, h.2, h.3, h.4, perhaps_in h.1 v h.5)) (λ x v h. h)
       (λ _. comma_read tokens again)
-      (λ _. weaken Shut (λ _ _. tt) (give_reads [] tokens))
+      (λ _. weaken (Shut macros.stand) (λ _ _. tt) (give_reads [] tokens))
       (first_is (mark 44 >> perhaps (free macros)) (nat_eq 44) true (opens_then (mark 44) _ (λ t. nat_eq 44 t ≡ true) (mark_opens 44 (λ t. nat_eq 44 t ≡ true) refl)))
       (λ x v rest h g. next_to (λ y. starts (nat_eq 44) y ≡ false) x rest h.0 g.1))
 
@@ -250,7 +249,7 @@ module _ (macros : MacroTexts) where
   all_turns zero tokens less = absurd (omega arith)
   all_turns (suc n) tokens less = one_turn tokens (λ r shorter. all_turns n r (omega (arith, less, shorter)))
 
-  pub fields_part : Part IsByte IsLimit (fields (strict macros)) (fields (free macros)) Shut (read_fields macros)
+  pub fields_part : Part IsByte (IsLimit macros) (fields (strict macros)) (fields (free macros)) (Shut macros.stand) (read_fields macros)
   fields_part = record {
     reads = λ tokens. all_turns (suc (length tokens)) tokens (omega arith);
     phrase = ([], [], no_fields (strict macros), tt);

@@ -1,23 +1,21 @@
 -- The parts for the items of a text, and for the text.
-use Rattle.std.proofs.Common.{◌≡◌, ◌+◌, ◌-◌, ◌<◌, ◌≤◌, ℕ, zero, suc, Bool, true, false, List, [], ◌∷◌, ◌++◌, length, length-append, refl, sym, ap, subst, ◌∙◌, append_assoc, inl, inr, arith}
-use Rattle.std.specs.Prelude.{◌⊎◌, nat_eq}
+use Rattle.std.proofs.Common.{◌≡◌, ◌+◌, ◌<◌, ◌≤◌, ℕ, zero, suc, Bool, true, false, List, [], ◌∷◌, ◌++◌, length, length-append, refl, sym, ap, subst, ◌∙◌, inl, inr, arith}
 use Rattle.std.proofs.lemmas.List.{append-nil}
-use Rattle.grammar.specs.Fault.{Every}
 use Rattle.grammar.specs.Grammar.{nothing, ◌>>=◌, either}
 use Rattle.grammar.specs.Reading.{Outcome, Read, Stuck, Past, and_then, starts, choose}
 use Rattle.grammar.proofs.Laws.{AtEnd, Stops}
 use Rattle.grammar.proofs.Parts.{Opens, opens_then}
 use Rattle.bibtex_laws.proofs.Laws.{Reads, weaken, restate, give_reads, then_reads, choose_reads}
 use Rattle.bibtex_laws.proofs.Parts.{Part, part_within, then_part}
-use Rattle.bibtex_spec.specs.Bytes.{is_letter, is_junk, behind}
+use Rattle.bibtex_spec.specs.Bytes.{is_letter, is_junk}
 use Rattle.bibtex_spec.specs.Macros.{MacroTexts}
-use Rattle.bibtex_laws.specs.Grammar.{Rules, strict, free, Phrase, Passing, each, mark, lower_word, sized, behind_word, item, macros_behind, items, text}
+use Rattle.bibtex_laws.specs.Grammar.{Rules, strict, free, Phrase, mark, lower_word, sized, behind_word, item, macros_behind, items, text}
 use Rattle.bibtex_laws.specs.Limits.{IsByte, IsLimit}
 use Rattle.bibtex_laws.proofs.Words.{each_part}
 use Rattle.bibtex_laws.proofs.Marks.{mark_opens}
 use Rattle.bibtex_laws.proofs.Values.{next_to}
 use Rattle.bibtex_laws.proofs.Known.{read_sized, sized_part}
-use Rattle.bibtex_laws.proofs.Entries.{head, item_reader, item_part}
+use Rattle.bibtex_laws.proofs.Entries.{head, item_part}
 
 -- each byte
 abbrev pub any : ℕ → Bool
@@ -114,14 +112,14 @@ items_stop macros at x (v ∷ vs) rest h ends =
     ap (λ y. starts is_junk (y ++ rest)) (h.2 ∙ ap (λ y. y ++ h.1) o.2) ∙ o.3
 
 abbrev Law : MacroTexts → ℕ → List ℕ → Type 0
-Law macros at tokens = Reads IsByte IsLimit (items strict macros at) (items free macros at) AtEnd (items_reader macros at) tokens
+Law macros at tokens = Reads IsByte (IsLimit macros) (items strict macros at) (items free macros at) AtEnd (items_reader macros at) tokens
 
 module _ (macros : MacroTexts) (at : ℕ) where
   one_more : (found : Phrase × ℕ) (r : List ℕ) → Law (macros_behind macros found.0) (at + found.1) r
-      → Reads IsByte IsLimit (items strict (macros_behind macros found.0) (at + found.1) >>= λ others. nothing (found.0 ∷ others)) (items free (macros_behind macros found.0) (at + found.1) >>= λ others. nothing (found.0 ∷ others)) AtEnd
+      → Reads IsByte (IsLimit macros) (items strict (macros_behind macros found.0) (at + found.1) >>= λ others. nothing (found.0 ∷ others)) (items free (macros_behind macros found.0) (at + found.1) >>= λ others. nothing (found.0 ∷ others)) AtEnd
       (λ ts. and_then (items_reader (macros_behind macros found.0) (at + found.1) ts) (λ others last. Read (found.0 ∷ others) last)) r
   one_more found r again =
-      then_reads IsByte IsLimit (items strict (macros_behind macros found.0) (at + found.1)) (items free (macros_behind macros found.0) (at + found.1)) (λ others. nothing (found.0 ∷ others)) (λ others. nothing (found.0 ∷ others)) AtEnd AtEnd
+      then_reads IsByte (IsLimit macros) (items strict (macros_behind macros found.0) (at + found.1)) (items free (macros_behind macros found.0) (at + found.1)) (λ others. nothing (found.0 ∷ others)) (λ others. nothing (found.0 ∷ others)) AtEnd AtEnd
       (items_reader (macros_behind macros found.0) (at + found.1)) (λ others last. Read (found.0 ∷ others) last) r again
       (λ others last _. weaken AtEnd (λ _ _. tt) (give_reads (found.0 ∷ others) last))
       (λ others x w h. h)
@@ -140,9 +138,9 @@ module _ (macros : MacroTexts) (at : ℕ) where
   one_turn : (tokens : List ℕ) → ((now : MacroTexts) (place : ℕ) (r : List ℕ) → length r < length tokens → Law now place r) → Law macros at tokens
   one_turn tokens again =
       restate (items strict macros at) (items free macros at) (items_reader macros at) (to_items strict macros at) (from_items strict macros at) (to_items free macros at) (from_items free macros at) (items_turn macros at)
-      (choose_reads IsByte IsLimit any (begun strict macros at) (begun free macros at) (nothing []) (nothing []) AtEnd (item_then items_reader macros at) (λ ts. Read [] ts) tokens
+      (choose_reads IsByte (IsLimit macros) any (begun strict macros at) (begun free macros at) (nothing []) (nothing []) AtEnd (item_then items_reader macros at) (λ ts. Read [] ts) tokens
       begun_in (λ x v h. h)
-      (λ _. then_reads IsByte IsLimit (sized (item (strict macros) at)) (sized (item (free macros) at))
+      (λ _. then_reads IsByte (IsLimit macros) (sized (item (strict macros) at)) (sized (item (free macros) at))
       (λ found. items strict (macros_behind macros found.0) (at + found.1) >>= λ others. nothing (found.0 ∷ others)) (λ found. items free (macros_behind macros found.0) (at + found.1) >>= λ others. nothing (found.0 ∷ others))
       (Stops is_junk) AtEnd (sized_reader macros at) (λ found rest. and_then (items_reader (macros_behind macros found.0) (at + found.1) rest) (λ others last. Read (found.0 ∷ others) last)) tokens ((sized_part (item_part macros at)).reads tokens)
       (λ found r was. one_more found r (again (macros_behind macros found.0) (at + found.1) r (item_shrinks macros at tokens found r was)))
@@ -158,17 +156,17 @@ all_turns : (n : ℕ) (macros : MacroTexts) (at : ℕ) (tokens : List ℕ) → l
 all_turns zero macros at tokens less = absurd (omega arith)
 all_turns (suc n) macros at tokens less = one_turn macros at tokens (λ now place r shorter. all_turns n now place r (omega (arith, less, shorter)))
 
-pub items_part : (macros : MacroTexts) (at : ℕ) → Part IsByte IsLimit (items strict macros at) (items free macros at) AtEnd (items_reader macros at)
+pub items_part : (macros : MacroTexts) (at : ℕ) → Part IsByte (IsLimit macros) (items strict macros at) (items free macros at) AtEnd (items_reader macros at)
 items_part macros at = record {
   reads = λ tokens. all_turns (suc (length tokens)) macros at tokens (omega arith);
   phrase = ([], [], refl, tt);
 }
 
 abbrev pub junk_reader : List ℕ → Outcome ℕ (List ℕ × ℕ)
-junk_reader = read_sized {Why = IsLimit} (each_part is_junk)
+junk_reader = read_sized {Why = λ word stops. Unit {0}} (each_part is_junk)
 
 abbrev pub text_reader : MacroTexts → List ℕ → Outcome ℕ (List Phrase)
 text_reader first ts = and_then (junk_reader ts) (λ junk. items_reader first junk.1)
 
-pub text_part : (first : MacroTexts) → Part IsByte IsLimit (text strict first) (text free first) AtEnd (text_reader first)
+pub text_part : (first : MacroTexts) → Part IsByte (IsLimit first) (text strict first) (text free first) AtEnd (text_reader first)
 text_part first = then_part (sized_part (each_part is_junk)) (λ junk. items_part first junk.1) (λ junk y w rest h f. items_stop first junk.1 y w rest h f)

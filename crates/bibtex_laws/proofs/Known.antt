@@ -1,12 +1,12 @@
 -- Parts behind a part of which more is known, and parts whose size is part of their value.
-use Rattle.std.proofs.Common.{◌≡◌, ◌+◌, ◌-◌, ℕ, Bool, List, [], ◌∷◌, ◌++◌, length, length-append, refl, sym, ap, subst, ◌∙◌, inl, inr, arith}
+use Rattle.std.proofs.Common.{◌≡◌, ◌-◌, ℕ, Bool, List, ◌∷◌, ◌++◌, length, length-append, refl, sym, ap, subst, ◌∙◌, inl, inr, arith}
 use Rattle.std.specs.Prelude.{◌⊎◌}
 use Rattle.grammar.specs.Fault.{Every}
 use Rattle.grammar.specs.Grammar as grammar
 use Rattle.grammar.specs.Reading.{Outcome, Read, Stuck, Past, and_then}
 use Rattle.grammar.proofs.Laws.{IsPast, every_append}
 use Rattle.bibtex_laws.specs.Past.{IsPastAt}
-use Rattle.bibtex_laws.proofs.Laws.{End, Value, Unexpected, answer, Core, Reads, IsViable, IsPassed, then_reads}
+use Rattle.bibtex_laws.proofs.Laws.{End, Value, Unexpected, answer, then_reads}
 use Rattle.bibtex_laws.proofs.Parts.{Part, part_within}
 use Rattle.bibtex_laws.specs.Grammar.{sized}
 

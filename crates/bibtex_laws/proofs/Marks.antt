@@ -1,16 +1,17 @@
 -- Parts for single bytes, names, keys, digits and delimited texts.
-use Rattle.std.proofs.Common.{◌≡◌, ◌<◌, ℕ, Bool, true, false, List, [], ◌∷◌, ◌++◌, Option, Some, None, refl, sym, ap, subst, ◌∙◌, arith}
+use Rattle.std.proofs.Common.{◌≡◌, ℕ, Bool, true, false, List, Some, None, refl, sym, subst, arith}
 use Rattle.std.specs.Prelude.{map, nat_eq, ◌||◌, if◌then◌else◌}
 use Rattle.std.proofs.lemmas.Bool.{eqb-true, eqb-false}
-use Rattle.grammar.specs.Grammar.{one, ◌>>◌}
-use Rattle.grammar.specs.Reading.{Outcome, and_then, starts, take_one}
+use Rattle.std.proofs.lemmas.Bool.Decides.{nat_tests}
+use Rattle.grammar.specs.Grammar.{one}
+use Rattle.grammar.specs.Reading.{Outcome, and_then, take_one}
 use Rattle.grammar.proofs.Laws.{Always, Stops}
 use Rattle.grammar.proofs.Parts.{Opens, opens_one, opens_then}
 use Rattle.bibtex_laws.proofs.Parts.{Part, ◌>>=◌, one_part, weaken_part}
-use Rattle.bibtex_spec.specs.Bytes.{is_blank, is_letter, is_digit, is_name_byte, is_key_byte, lower, behind}
+use Rattle.bibtex_spec.specs.Bytes.{is_blank, is_letter, is_digit, is_name_byte, is_key_byte, lower, begins_name}
 use Rattle.bibtex_spec.specs.Macros.{MacroTexts}
 use Rattle.bibtex_spec.specs.Reading.{spaced as read_spaced, same_byte, closing, read_mark, read_open, read_name, read_written, read_key, enclosed as read_up_to}
-use Rattle.bibtex_laws.specs.Grammar.{strict, free, mark, opening, name, written, key, digits, word, lower_word, spaced, delimited}
+use Rattle.bibtex_laws.specs.Grammar.{strict, free, mark, opening, name, written, key, digits, delimited}
 use Rattle.bibtex_laws.specs.Limits.{IsByte, IsLimit, none}
 use Rattle.bibtex_laws.proofs.Words.{Clear, read_word, mapped_word_part, spaced_part}
 use Rattle.bibtex_laws.proofs.Enclosed.{enclosed_part}
@@ -40,8 +41,11 @@ not_blank belongs away b is = by (is_blank b) refl
     by true blank = let not : belongs b ≡ false = away b blank in absurd cc
     by false blank = blank
 
-pub name_apart : Apart is_name_byte
-name_apart = apart is_name_byte refl refl refl refl
+pub name_apart : (wide : Bool) → Apart (is_name_byte wide)
+name_apart wide = apart (is_name_byte wide) refl refl refl refl
+
+pub begin_apart : (wide : Bool) → Apart (begins_name wide)
+begin_apart wide = apart (begins_name wide) refl refl refl refl
 
 pub key_apart : Apart is_key_byte
 key_apart = apart is_key_byte refl refl refl refl
@@ -52,8 +56,9 @@ digit_apart = apart is_digit refl refl refl refl
 pub letter_apart : Apart is_letter
 letter_apart = apart is_letter refl refl refl refl
 
-pub letter_in_name : (b : ℕ) → is_letter b ≡ true → is_name_byte b ≡ true
-letter_in_name b is = rw is refl
+pub begins_in_name : (wide : Bool) (b : ℕ) → begins_name wide b ≡ true → is_name_byte wide b ≡ true
+begins_in_name true b is = grind (arith, nat_tests)
+begins_in_name false b is = grind (arith, nat_tests)
 
 or_digit : (p q r : Bool) → q ≡ true → ((p || q) || r) ≡ true
 or_digit true q r is = refl
@@ -90,13 +95,13 @@ module _ {Why : List ℕ → (ℕ → Bool) → Type 0} where
   unfolding read_open
   opening_part = spaced_part none (λ _ _. refl) (weaken_part (Stops none) (λ _ _. tt) (one_part closing 123 125 refl (omega arith)))
 
-  pub name_part : Part IsByte Why name name (Clear is_name_byte) read_name
+  pub name_part : (wide : Bool) → Part IsByte Why (name wide) (name wide) (Clear (is_name_byte wide)) (read_name wide)
   unfolding read_name
-  name_part = spaced_part is_name_byte name_apart (mapped_word_part is_letter is_name_byte (map lower) letter_in_name 97 refl (omega arith))
+  name_part wide = spaced_part (is_name_byte wide) (name_apart wide) (mapped_word_part (begins_name wide) (is_name_byte wide) (map lower) (begins_in_name wide) 97 refl (omega arith))
 
-  pub written_part : Part IsByte Why written written (Clear is_name_byte) read_written
+  pub written_part : (wide : Bool) → Part IsByte Why (written wide) (written wide) (Clear (is_name_byte wide)) (read_written wide)
   unfolding read_written
-  written_part = spaced_part is_name_byte name_apart (mapped_word_part is_letter is_name_byte (λ x. x) letter_in_name 97 refl (omega arith))
+  written_part wide = spaced_part (is_name_byte wide) (name_apart wide) (mapped_word_part (begins_name wide) (is_name_byte wide) (λ x. x) (begins_in_name wide) 97 refl (omega arith))
 
   pub key_part : Part IsByte Why key key (Clear is_key_byte) read_key
   unfolding read_key
@@ -108,9 +113,9 @@ module _ {Why : List ℕ → (ℕ → Bool) → Type 0} where
 abbrev pub delimited_reader : ℕ → ℕ → List ℕ → Outcome ℕ (List ℕ)
 delimited_reader start close = read_spaced (λ ts. and_then (take_one true (same_byte start) ts) (λ _ rest. read_up_to close 1 rest))
 
-pub delimited_part : (macros : MacroTexts) (start close : ℕ) → IsByte start → IsByte close → Part IsByte IsLimit (delimited (strict macros) start close) (delimited (free macros) start close) (Clear none) (delimited_reader start close)
+pub delimited_part : (macros : MacroTexts) (start close : ℕ) → IsByte start → IsByte close → Part IsByte (IsLimit macros) (delimited (strict macros) start close) (delimited (free macros) start close) (Clear none) (delimited_reader start close)
 delimited_part macros start close real real_close =
-    spaced_part none (λ _ _. refl) (weaken_part (Stops none) (λ _ _. tt) (byte_part start real >>= λ _. enclosed_part close real_close))
+    spaced_part none (λ _ _. refl) (weaken_part (Stops none) (λ _ _. tt) (byte_part start real >>= λ _. enclosed_part macros close real_close))
 
 -- what phrases open with
 

@@ -1,12 +1,11 @@
 -- The reader of an item that the grammar's parts make reads as `read_item` does, with the bytes up to the next item.
-use Rattle.std.proofs.Common.{◌≡◌, ◌+◌, ◌-◌, ◌≤◌, ℕ, Bool, true, false, List, [], ◌∷◌, ◌++◌, length, length-append, refl, sym, ap, subst, ◌∙◌, arith}
-use Rattle.std.specs.Prelude.{map, nat_eq, codes, if◌then◌else◌}
+use Rattle.std.proofs.Common.{◌≡◌, ◌+◌, ◌-◌, ◌≤◌, ℕ, Bool, true, false, List, [], ◌∷◌, length, length-append, refl, sym, ap, ◌∙◌, arith}
+use Rattle.std.specs.Prelude.{map, codes, if◌then◌else◌}
 use Rattle.std.specs.Str.{bytes_eq}
 use Rattle.std.proofs.lemmas.Bool.Decides.{nat_tests}
 use Rattle.grammar.specs.Reading.{Outcome, Read, Stuck, Past, and_then, starts, take_one}
 use Rattle.grammar.proofs.Laws.{Stops}
 use Rattle.bibtex_laws.proofs.Parts.{Part}
-use Rattle.bibtex_spec.specs.declared.Field.{Field}
 use Rattle.bibtex_spec.specs.declared.Item.{Item}
 use Rattle.bibtex_spec.specs.declared.Item.TheVariants.{Passes, Defines, Enters}
 use Rattle.bibtex_spec.specs.Bytes.{is_blank, is_letter, is_junk, lower, run, behind}
@@ -16,7 +15,7 @@ use Rattle.bibtex_laws.specs.Grammar.{Phrase, lower_word, Passing, Defining, Ent
 use Rattle.bibtex_laws.specs.Limits.{IsByte, IsLimit}
 use Rattle.bibtex_laws.proofs.Words.{run_parts, behind_stops, read_word, mapped_word_part}
 use Rattle.bibtex_laws.proofs.Marks.{opening_part, mark_part}
-use Rattle.bibtex_laws.proofs.Entries.{closed_reader, comment_reader, definition_reader, preamble_reader, entry_reader, entered_reader, reader_of, behind_reader, head_reader, item_reader}
+use Rattle.bibtex_laws.proofs.Entries.{closed_reader, definition_reader, preamble_reader, entry_reader, reader_of, behind_reader, head_reader, item_reader}
 
 -- ways to read
 
@@ -78,12 +77,12 @@ module _ (macros : MacroTexts) (whole : ℕ) where
   unfolding read_definition
   definition_same ts =
       and_then_same (read_open (behind is_blank ts)) _ _ (λ close r1 _.
-      and_then_same (read_name r1) _ _ (λ word r2 _.
+      and_then_same (read_name macros.stand r1) _ _ (λ word r2 _.
       and_then_same (read_mark 61 r2) _ _ (λ _ r3 _.
       and_then_same (read_value macros r3) _ _ (λ text r4 _. closed_same whole close (Defines word text) r4)
       ∙ sym (and_then_assoc (read_value macros r3) _ _))
       ∙ sym (and_then_assoc (read_mark 61 r2) _ _))
-      ∙ sym (and_then_assoc (read_name r1) _ _))
+      ∙ sym (and_then_assoc (read_name macros.stand r1) _ _))
       ∙ sym (and_then_assoc (read_open (behind is_blank ts)) _ _)
 
   preamble_same : (ts : List ℕ) → preamble_reader macros ts ≡ up_to_next whole (read_preamble macros (behind is_blank ts))
@@ -100,7 +99,7 @@ module _ (macros : MacroTexts) (whole : ℕ) where
   -- so many bytes stand before an entry's key
   ahead_is : (b r : List ℕ) (close : ℕ) → length b ≤ whole → read_open (behind is_blank b) ≡ Read close r → (whole - length b) + (length b - length r) ≡ whole - length r
   ahead_is b r close few was =
-      let a = ((opening_part {Why = IsLimit}).reads (behind is_blank b)).core.sound close r was in
+      let a = ((opening_part {Why = IsLimit macros}).reads (behind is_blank b)).core.sound close r was in
       let k = behind_shorter is_blank b in
       omega (arith, k, few, ap length a.1, length-append a.0 r)
 
@@ -135,14 +134,14 @@ module _ (macros : MacroTexts) (whole : ℕ) where
       let k = behind_shorter is_letter r in
       rw is (rest_same (map lower (run is_letter r)) (behind is_letter r) (behind_stops is_letter r) (omega (arith, few, k)))
 
-letters_part : Part IsByte IsLimit (lower_word is_letter is_letter) (lower_word is_letter is_letter) (Stops is_letter) read_letters
+letters_part : {Why : List ℕ → (ℕ → Bool) → Type 0} → Part IsByte Why (lower_word is_letter is_letter) (lower_word is_letter is_letter) (Stops is_letter) read_letters
 letters_part = mapped_word_part is_letter is_letter (map lower) (λ b is. is) 97 refl (omega arith)
 
 class_shifted : (macros : MacroTexts) (at size : ℕ) (r : List ℕ) → length r ≤ size → (p : Bool) → starts is_letter r ≡ p
     → and_then (read_letters r) (λ class b. behind_reader macros class (at + (size - length b)) b) ≡ up_to_next (at + size) (and_then (read_class r) (read_rest macros))
 class_shifted macros at size r few p is =
     and_then_same (read_letters r) _ _ (λ class b was.
-    let a = (letters_part.reads r).core.sound class b was in
+    let a = ((letters_part {Why = IsLimit macros}).reads r).core.sound class b was in
     let place : at + (size - length b) ≡ (at + size) - length b = omega (arith, few, ap length a.1, length-append a.0 b) in
     ap (λ n. behind_reader macros class n b) place)
     ∙ class_same macros (at + size) r (omega (arith, few)) p is
@@ -153,7 +152,7 @@ item_same macros at ts =
     and_then_assoc (head_reader ts) _ _
     ∙ and_then_assoc (read_mark 64 ts) _ _
     ∙ and_then_same (read_mark 64 ts) _ _ (λ v r was.
-    let a = ((mark_part {Why = IsLimit} 64 (omega arith)).reads ts).core.sound v r was in
+    let a = ((mark_part {Why = IsLimit macros} 64 (omega arith)).reads ts).core.sound v r was in
     let few : length r ≤ length ts = omega (arith, ap length a.1, length-append a.0 r) in
     class_shifted macros at (length ts) r few (starts is_letter r) refl)
     ∙ sym (and_then_assoc (read_mark 64 ts) _ _)

@@ -1,10 +1,10 @@
 -- The reader of a whole text finds its items, and otherwise the first byte at which the text leaves the grammar, or the
 -- word that passes a limit.
-use Rattle.std.proofs.Common.{◌≡◌, ℕ, Bool, List, [], ◌∷◌, ◌++◌, refl, sym, ap, subst, ◌∙◌, append_assoc, inl, inr}
+use Rattle.std.proofs.Common.{◌≡◌, ℕ, Bool, List, [], ◌∷◌, ◌++◌, refl, sym, ap, ◌∙◌, append_assoc, inl, inr}
 use Rattle.std.specs.Prelude.{◌⊎◌}
 use Rattle.std.proofs.lemmas.List.{append-nil}
-use Rattle.grammar.specs.Fault.{IsSpelled, IsFront, FirstFault}
-use Rattle.grammar.specs.Reading.{Outcome, Read, Stuck, Past, starts}
+use Rattle.grammar.specs.Fault.{IsSpelled, IsFront}
+use Rattle.grammar.specs.Reading.{Outcome, Read, Stuck, Past}
 use Rattle.grammar.proofs.Laws.{IsPast}
 use Rattle.bibtex_spec.specs.Macros.{MacroTexts}
 use Rattle.bibtex_laws.proofs.Laws.{Unexpected}
@@ -48,7 +48,7 @@ is_first_fault first bytes rest h =
       ends = λ _ spelled. not_spelled first bytes rest h spelled;
     }
 
-pub is_passed : (first : MacroTexts) (bytes rest : List ℕ) → text_reader first bytes ≡ Past rest → (word : List ℕ) × (stops : ℕ → Bool) × IsLimit word stops × IsPassedBy first word stops bytes rest
+pub is_passed : (first : MacroTexts) (bytes rest : List ℕ) → text_reader first bytes ≡ Past rest → (word : List ℕ) × (stops : ℕ → Bool) × IsLimit first word stops × IsPassedBy first word stops bytes rest
 is_passed first bytes rest h =
     let a = ((text_part first).reads bytes).past rest h in (
       a.head ∷ a.tail,

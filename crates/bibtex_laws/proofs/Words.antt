@@ -1,18 +1,17 @@
 -- Parts for runs of bytes, words, and blanks behind them.
-use Rattle.std.proofs.Common.{◌≡◌, ◌+◌, ◌-◌, ◌≤◌, ℕ, Bool, true, false, List, [], ◌∷◌, ◌++◌, length, Option, Some, None, refl, sym, ap, subst, ◌∙◌, append_assoc, inl, inr, arith, length-append}
-use Rattle.std.specs.Prelude.{◌⊎◌, map, if◌then◌else◌}
+use Rattle.std.proofs.Common.{◌≡◌, ℕ, Bool, true, false, List, [], ◌∷◌, ◌++◌, Option, Some, None, refl, sym, ap, subst, ◌∙◌, inl}
+use Rattle.std.specs.Prelude.{if◌then◌else◌}
 use Rattle.std.proofs.lemmas.List.{append-nil, append_cancel_right}
 use Rattle.grammar.specs.Fault.{Every}
 use Rattle.grammar.specs.Grammar.{nothing, one}
 use Rattle.grammar.specs.Grammar as grammar
-use Rattle.grammar.specs.Reading.{Outcome, Read, Stuck, Past, and_then, starts, choose, take_one, taken}
-use Rattle.grammar.proofs.Laws.{Always, Stops, IsPast}
-use Rattle.bibtex_laws.specs.Past.{IsPastAt}
-use Rattle.bibtex_laws.proofs.Laws.{End, Value, Unexpected, answer, Core, Reads, IsViable, IsPassed, no_front}
+use Rattle.grammar.specs.Reading.{Outcome, Read, and_then, starts, choose, take_one}
+use Rattle.grammar.proofs.Laws.{Stops}
+use Rattle.bibtex_laws.proofs.Laws.{End, Value, Unexpected, answer}
 use Rattle.bibtex_laws.proofs.Parts.{Part, ◌>>=◌, give_part, one_part, then_part, weaken_part, restate_part}
-use Rattle.bibtex_spec.specs.Bytes.{is_blank, lower, run, behind}
+use Rattle.bibtex_spec.specs.Bytes.{is_blank, run, behind}
 use Rattle.bibtex_spec.specs.Reading.{stuck}
-use Rattle.bibtex_laws.specs.Grammar.{each, word, lower_word, sized, blanks, spaced}
+use Rattle.bibtex_laws.specs.Grammar.{each, blanks, spaced}
 use Rattle.bibtex_laws.specs.Limits.{IsByte}
 
 -- the longest run

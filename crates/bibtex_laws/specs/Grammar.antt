@@ -17,21 +17,23 @@ use Rattle.grammar.specs.Fault.{Every}
 use Rattle.grammar.specs.Grammar.{nothing, one, ◌>>=◌, ◌>>◌, either, many, iterated}
 use Rattle.grammar.specs.Reading.{starts}
 use Rattle.bibtex_spec.specs.declared.Field.{Field}
-use Rattle.bibtex_spec.specs.Bytes.{is_blank, is_letter, is_digit, is_name_byte, is_key_byte, is_junk, lower}
+use Rattle.bibtex_spec.specs.Bytes.{is_blank, is_letter, is_digit, is_name_byte, is_key_byte, is_junk, lower, begins_name}
 use Rattle.bibtex_spec.specs.Values.{tidy, has_room}
 use Rattle.bibtex_spec.specs.Macros.{MacroTexts, text_of, with_macro}
 use Rattle.bibtex_spec.specs.Reading.{same_byte, closing}
 use Rattle.bibtex_laws.specs.Braces.{IsEnclosed, IsShallow}
 
--- What is kept apart from the grammar: which text a macro's name stands for behind the text that its value has before
--- it, and which texts aren't too deep.
+-- What is kept apart from the grammar: whether names are wide, which text a macro's name stands for behind the text that
+-- its value has before it, and which texts aren't too deep.
 pub record Rules : Type 1 where
+  pub wide : Bool
   pub stands : (before name text : List ℕ) → Type 0
   pub fits : List ℕ → Type 0
 
 -- a name stands for its text by the macros, for which there is room, and no text has more than 64 open braces
 abbrev pub strict : MacroTexts → Rules
 strict macros = record {
+  wide = macros.stand;
   stands = λ before name text. (text_of macros name ≡ Some text) × (has_room before text ≡ true);
   fits = IsShallow 0;
 }
@@ -44,6 +46,7 @@ or_empty None = []
 -- too large.
 abbrev pub free : MacroTexts → Rules
 free macros = record {
+  wide = macros.stand;
   stands = λ before name text. text ≡ or_empty (text_of macros name);
   fits = λ text. Unit {0};
 }
@@ -90,12 +93,12 @@ mark b = spaced (one (same_byte b))
 abbrev pub opening : List ℕ → ℕ → Type 0
 opening = spaced (one closing)
 
-abbrev pub name : List ℕ → List ℕ → Type 0
-name = spaced (lower_word is_letter is_name_byte)
+abbrev pub name : (wide : Bool) → List ℕ → List ℕ → Type 0
+name wide = spaced (lower_word (begins_name wide) (is_name_byte wide))
 
 -- a name as it is written
-abbrev pub written : List ℕ → List ℕ → Type 0
-written = spaced (word is_letter is_name_byte)
+abbrev pub written : (wide : Bool) → List ℕ → List ℕ → Type 0
+written wide = spaced (word (begins_name wide) (is_name_byte wide))
 
 abbrev pub key : List ℕ → List ℕ → Type 0
 key = spaced (word is_key_byte is_key_byte)
@@ -115,7 +118,7 @@ delimited rules start close = spaced (one (same_byte start) >> enclosed rules cl
 
 abbrev pub macro : Rules → List ℕ → List ℕ → List ℕ → Type 0
 macro rules before bytes text =
-    (word : List ℕ) × written bytes word × rules.stands before word text
+    (word : List ℕ) × written rules.wide bytes word × rules.stands before word text
 
 abbrev pub piece : Rules → List ℕ → List ℕ → List ℕ → Type 0
 piece rules before =
@@ -136,7 +139,7 @@ value rules = do
 
 abbrev pub field : Rules → List ℕ → Field → Type 0
 field rules = do
-  word ← name
+  word ← name rules.wide
   mark 61
   text ← value rules
   nothing (record { name = word; text = tidy text })
@@ -159,7 +162,7 @@ abbrev pub definition : Rules → List ℕ → Phrase → Type 0
 definition rules = do
   gap
   close ← opening
-  word ← name
+  word ← name rules.wide
   mark 61
   text ← value rules
   closed close (Defining word text)
@@ -209,10 +212,14 @@ item rules at = do
   start ← sized (mark 64 >> lower_word is_letter is_letter)
   behind_word rules start.0 (at + start.1)
 
+-- what a phrase leaves of the texts that names were defined as
+abbrev pub known_behind : MacroTexts → Phrase → List (List ℕ × List ℕ)
+known_behind macros Passing = macros.known
+known_behind macros (Defining word found) = (with_macro macros word found).known
+known_behind macros (Entering at class word found) = macros.known
+
 abbrev pub macros_behind : MacroTexts → Phrase → MacroTexts
-macros_behind macros Passing = macros
-macros_behind macros (Defining word found) = with_macro macros word found
-macros_behind macros (Entering at class word found) = macros
+macros_behind macros phrase = record { known = known_behind macros phrase; stand = macros.stand }
 
 -- Items, each by the macros that those before it leave. The first begins at this place of the text.
 abbrev pub items : (MacroTexts → Rules) → MacroTexts → ℕ → List ℕ → List Phrase → Type 0

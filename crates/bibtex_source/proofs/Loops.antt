@@ -5,7 +5,7 @@ use Rattle.grammar.specs.Reading.{Outcome, Read, Stuck, Past, and_then, starts, 
 use Rattle.bibtex_source.specs.declared.halt.Halt.{Halt}
 use Rattle.bibtex_source.specs.declared.halt.Halt.TheVariants.{Expected, Limit, NoMemory}
 use Rattle.bibtex_spec.specs.declared.Field.{Field}
-use Rattle.bibtex_spec.specs.Bytes.{is_letter}
+use Rattle.bibtex_spec.specs.Bytes.{begins_name}
 use Rattle.bibtex_spec.specs.Macros.{MacroTexts}
 use Rattle.bibtex_source.specs.Gives.{Fails}
 use Rattle.bibtex_spec.specs.Reading.{read_mark, read_field, listed, read_fields}
@@ -81,7 +81,7 @@ module _ (macros : MacroTexts) where
       nothing_yet (Past rest) = refl
 
   pub field_listed : (front : List Field) (rest inner after : List ℕ) (mark : ℕ) (field : Field) (total : Outcome ℕ (List Field)) → starts (nat_eq 44) rest ≡ true → read_mark 44 rest ≡ Read mark inner
-      → starts is_letter inner ≡ true → read_field macros inner ≡ Read field after → length after < length rest → IsListed front rest total → IsListed (front ++ field ∷ []) after total
+      → starts (begins_name macros.stand) inner ≡ true → read_field macros inner ≡ Read field after → length after < length rest → IsListed front rest total → IsListed (front ++ field ∷ []) after total
   field_listed front rest inner after mark field total is marked letter was shorter so_far = by so_far.turns so_far.enough so_far.so_far
     where
       by : (n : ℕ) → length rest ≤ n → with_front front (listed macros n rest) ≡ total → IsListed (front ++ field ∷ []) after total

@@ -6,9 +6,9 @@ use Rattle.grammar.specs.Fault.{Every}
 use Rattle.grammar.specs.Reading.{Past, starts}
 use Rattle.graph_spec.specs.DataGraph.{Name}
 use Rattle.sd_graph.specs.Statement.{Building}
-use Rattle.bibtex_spec.specs.Bytes.{is_letter, is_name_byte, is_junk, run, behind}
+use Rattle.bibtex_spec.specs.Bytes.{is_name_byte, is_junk, run, behind, begins_name}
 use Rattle.bibtex_spec.specs.Macros.{MacroTexts, text_of, months}
-use Rattle.bibtex_laws.specs.Grammar.{Phrase, strict, items, text}
+use Rattle.bibtex_laws.specs.Grammar.{Phrase, strict, items, text, macros_behind}
 use Rattle.bibtex_laws.specs.Limits.{IsLimit, none}
 use Rattle.bibtex_laws.specs.Faults.{IsPassedBy}
 use Rattle.bibtex_laws.proofs.Words.{run_parts, run_every, run_exact, behind_stops}
@@ -29,23 +29,28 @@ use Rattle.bibtex_source.proofs.Spelled.{IsEnd, IsWalked, junk_past, junk_past_e
 brace_first : (macros : MacroTexts) (later rest : List ℕ) (whole : ℕ) → rest ≡ 123 ∷ later → limit_fault whole macros rest ≡ TooDeep (whole - length rest)
 brace_first macros later rest whole e = rw e refl
 
-not_brace : (b : ℕ) → is_letter b ≡ true → nat_eq 123 b ≡ false
-not_brace b is = by (nat_eq 123 b) refl
+not_brace : (wide : Bool) (b : ℕ) → begins_name wide b ≡ true → nat_eq 123 b ≡ false
+not_brace wide b is = by (nat_eq 123 b) refl
   where
     by : (p : Bool) → nat_eq 123 b ≡ p → nat_eq 123 b ≡ false
     by false e = e
-    by true e = absurd (let same : is_letter 123 ≡ is_letter b = ap is_letter (eqb-true 123 b e) in cc)
+    by true e = absurd (let same : begins_name wide 123 ≡ begins_name wide b = ap (begins_name wide) (eqb-true 123 b e) in cc)
 
-letter_first : (macros : MacroTexts) (word later rest : List ℕ) (whole : ℕ) → starts is_letter word ≡ true → rest ≡ word ++ later
-    → limit_fault whole macros rest ≡ macro_fault (whole - length rest) (text_of macros (run is_name_byte rest))
+letter_first : (macros : MacroTexts) (word later rest : List ℕ) (whole : ℕ) → starts (begins_name macros.stand) word ≡ true → rest ≡ word ++ later
+    → limit_fault whole macros rest ≡ macro_fault (whole - length rest) (text_of macros (run (is_name_byte macros.stand) rest))
 letter_first macros [] later rest whole is e = absurd cc
-letter_first macros (b ∷ word) later rest whole is e = rw (e, not_brace b is) refl
+letter_first macros (b ∷ word) later rest whole is e = rw (e, not_brace macros.stand b is) refl
 
-name_first : (macros : MacroTexts) (word later rest : List ℕ) (whole : ℕ) → starts is_letter word ≡ true → Every (λ b. is_name_byte b ≡ true) word → rest ≡ word ++ later → starts is_name_byte later ≡ false
+name_first : (macros : MacroTexts) (word later rest : List ℕ) (whole : ℕ) → starts (begins_name macros.stand) word ≡ true → Every (λ b. is_name_byte macros.stand b ≡ true) word → rest ≡ word ++ later → starts (is_name_byte macros.stand) later ≡ false
     → limit_fault whole macros rest ≡ macro_fault (whole - length rest) (text_of macros word)
 name_first macros word later rest whole is all e ends =
-    let run_is : run is_name_byte rest ≡ word = ap (run is_name_byte) e ∙ (run_exact is_name_byte word later all ends).0 in
+    let run_is : run (is_name_byte macros.stand) rest ≡ word = ap (run (is_name_byte macros.stand)) e ∙ (run_exact (is_name_byte macros.stand) word later all ends).0 in
     letter_first macros word later rest whole is e ∙ ap (λ x. macro_fault (whole - length rest) (text_of macros x)) run_is
+
+-- names stay as wide as they are
+after_stand : (macros : MacroTexts) (phrases : List Phrase) → (macros_after macros phrases).stand ≡ macros.stand
+after_stand macros [] = refl
+after_stand macros (phrase ∷ phrases) = after_stand (macros_behind macros phrase) phrases
 
 module _ (rules : BibRules) (stem : Name) (file : List ℕ) (first : MacroTexts) (bytes : List ℕ) where
   abbrev source : Source
@@ -72,21 +77,24 @@ module _ (rules : BibRules) (stem : Name) (file : List ℕ) (first : MacroTexts)
   name_fault macros rest name None is at = (refl, (name, at, is))
   name_fault macros rest name (Some text) is at = (refl, (name, text, at, is))
 
-  limit_by : (macros : MacroTexts) (rest word : List ℕ) (stops : ℕ → Bool) → IsLimit word stops → IsPassedBy first word stops bytes rest → IsFault first macros bytes rest (limit_fault (length bytes) macros rest)
-  limit_by macros rest word stops (inl brace) passed =
+  limit_by : (macros : MacroTexts) (rest word : List ℕ) (stops : ℕ → Bool) → macros.stand ≡ first.stand → IsLimit first word stops → IsPassedBy first word stops bytes rest → IsFault first macros bytes rest (limit_fault (length bytes) macros rest)
+  limit_by macros rest word stops same (inl brace) passed =
       let now : IsPassedBy first (123 ∷ []) none bytes rest = subst (λ w. IsPassedBy first w none bytes rest) brace.0 (subst (λ s. IsPassedBy first word s bytes rest) brace.1 passed) in
       subst (IsFault first macros bytes rest) (sym (brace_first macros now.later rest (length bytes) now.is)) (refl, now)
-  limit_by macros rest word stops (inr name) passed =
-      let now : IsPassedBy first word is_name_byte bytes rest = subst (λ s. IsPassedBy first word s bytes rest) name.2 passed in
-      subst (IsFault first macros bytes rest) (sym (name_first macros word now.later rest (length bytes) name.0 name.1 now.is now.ends))
+  limit_by macros rest word stops same (inr name) passed =
+      let now : IsPassedBy first word (is_name_byte first.stand) bytes rest = subst (λ s. IsPassedBy first word s bytes rest) name.2 passed in
+      let told : limit_fault (length bytes) macros rest ≡ macro_fault (length bytes - length rest) (text_of macros word) =
+      name_first macros word now.later rest (length bytes) (subst (λ w. starts (begins_name w) word ≡ true) (sym same) name.0)
+      (subst (λ w. Every (λ b. is_name_byte w b ≡ true) word) (sym same) name.1) now.is (subst (λ w. starts (is_name_byte w) now.later ≡ false) (sym same) now.ends) in
+      subst (IsFault first macros bytes rest) (sym told)
       (name_fault macros rest word (text_of macros word) refl (name.0, name.1, now))
 
-  limit_is : (macros : MacroTexts) (rest : List ℕ) → text_reader first bytes ≡ Past rest → IsFault first macros bytes rest (limit_fault (length bytes) macros rest)
-  limit_is macros rest h = let a = is_passed first bytes rest h in limit_by macros rest a.0 a.1 a.2 a.3
+  limit_is : (macros : MacroTexts) (rest : List ℕ) → macros.stand ≡ first.stand → text_reader first bytes ≡ Past rest → IsFault first macros bytes rest (limit_fault (length bytes) macros rest)
+  limit_is macros rest same h = let a = is_passed first bytes rest h in limit_by macros rest a.0 a.1 same a.2 a.3
 
-  because : (macros : MacroTexts) (rest : List ℕ) (e : BibRefusal) → IsEnd source stem (length bytes) macros (items_reader first (length before) marked) rest e → IsFault first macros bytes rest e
-  because macros rest e (inl h) = subst (IsFault first macros bytes rest) (sym h.1) (refl, is_first_fault first bytes rest (text_is ∙ h.0))
-  because macros rest e (inr h) = subst (IsFault first macros bytes rest) (sym h.1) (limit_is macros rest (text_is ∙ h.0))
+  because : (macros : MacroTexts) (rest : List ℕ) (e : BibRefusal) → macros.stand ≡ first.stand → IsEnd source stem (length bytes) macros (items_reader first (length before) marked) rest e → IsFault first macros bytes rest e
+  because macros rest e same (inl h) = subst (IsFault first macros bytes rest) (sym h.1) (refl, is_first_fault first bytes rest (text_is ∙ h.0))
+  because macros rest e same (inr h) = subst (IsFault first macros bytes rest) (sym h.1) (limit_is macros rest same (text_is ∙ h.0))
 
   by_phrases : (phrases : List Phrase) → entries_in first bytes ≡ phrases_entries phrases → phrases_steps source stem phrases ≡ phrases_steps (source_of rules file bytes (phrases_entries phrases)) stem phrases
   by_phrases phrases e = ap (λ entries. phrases_steps (source_of rules file bytes entries) stem phrases) e
@@ -103,7 +111,7 @@ module _ (rules : BibRules) (stem : Name) (file : List ℕ) (first : MacroTexts)
     spelled = spelled h.front h.phrases h.spelled;
     no_more = h.no_more;
     steps_are = h.steps_are ∙ ap (λ steps. steps ++ fails h.fault ∷ []) (by_phrases h.phrases h.entries_are);
-    because = because (macros_after first h.phrases) h.rest h.fault h.ends;
+    because = because (macros_after first h.phrases) h.rest h.fault (after_stand first h.phrases) h.ends;
   })
 
   pub is_steps : IsSteps rules stem file first bytes (items_steps source stem first bytes)

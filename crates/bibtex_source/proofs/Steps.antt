@@ -43,9 +43,9 @@ limit_ends : (b : Building) (whole : ℕ) (macros : MacroTexts) (rest : List ℕ
 limit_ends b whole macros [] e is = macro_ends b (whole - 0) (text_of macros []) e is
 limit_ends b whole macros (x ∷ rest) e is = by (nat_eq 123 x) is
   where
-    by : (p : Bool) → e ≡ (if p then TooDeep (whole - length (x ∷ rest)) else macro_fault (whole - length (x ∷ rest)) (text_of macros (run is_name_byte (x ∷ rest)))) → Ends b (fails (if p then TooDeep (whole - length (x ∷ rest)) else macro_fault (whole - length (x ∷ rest)) (text_of macros (run is_name_byte (x ∷ rest)))) ∷ []) b (bib_ending (Err e))
+    by : (p : Bool) → e ≡ (if p then TooDeep (whole - length (x ∷ rest)) else macro_fault (whole - length (x ∷ rest)) (text_of macros (run (is_name_byte macros.stand) (x ∷ rest)))) → Ends b (fails (if p then TooDeep (whole - length (x ∷ rest)) else macro_fault (whole - length (x ∷ rest)) (text_of macros (run (is_name_byte macros.stand) (x ∷ rest)))) ∷ []) b (bib_ending (Err e))
     by true is = rw is ([], [], refl, refl)
-    by false is = macro_ends b (whole - length (x ∷ rest)) (text_of macros (run is_name_byte (x ∷ rest))) e is
+    by false is = macro_ends b (whole - length (x ∷ rest)) (text_of macros (run (is_name_byte macros.stand) (x ∷ rest))) e is
 
 fault_ends : (b : Building) (source : Source) (stem : Name) (whole : ℕ) (macros : MacroTexts) (later : MacroTexts → List ℕ → List BibStep) (read : Outcome ℕ Item) (e : BibRefusal) → IsFaultOf whole macros read e → Ends b (read_steps source stem whole macros later read) b (bib_ending (Err e))
 fault_ends b source stem whole macros later (Read item rest) e is = absurd is

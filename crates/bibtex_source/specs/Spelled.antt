@@ -7,7 +7,7 @@ use Rattle.graph_spec.specs.DataGraph.{Name}
 use Rattle.sd_graph.specs.Statement.{Building}
 use Rattle.sd_graph.specs.Stating.{fails, Ends}
 use Rattle.bibtex_spec.specs.declared.Field.{Field}
-use Rattle.bibtex_spec.specs.Bytes.{is_letter, is_name_byte, is_junk}
+use Rattle.bibtex_spec.specs.Bytes.{is_name_byte, is_junk, begins_name}
 use Rattle.bibtex_spec.specs.Macros.{MacroTexts, text_of, months}
 use Rattle.bibtex_laws.specs.Grammar.{Phrase, Passing, Defining, Entering, strict, item, macros_behind, text}
 use Rattle.bibtex_laws.specs.Limits.{none}
@@ -40,8 +40,9 @@ phrases_entries = flat_map phrase_entry
 -- the name, as it is written, with which `rest` begins and passes a limit
 abbrev pub IsNameAt : MacroTexts → List ℕ → List ℕ → List ℕ → Type 0
 IsNameAt first bytes rest name =
-    (starts is_letter name ≡ true) × Every (λ b. is_name_byte b ≡ true) name
-    × IsPassedBy first name is_name_byte bytes rest
+    (starts (begins_name first.stand) name ≡ true)
+    × Every (λ b. is_name_byte first.stand b ≡ true) name
+    × IsPassedBy first name (is_name_byte first.stand) bytes rest
 
 -- The text is refused where `rest` begins: at the first byte that doesn't fit, at a name that stands for no text, at
 -- one whose text makes its value too large, or at the brace that is open within 64.

@@ -80,10 +80,14 @@ item_steps source stem whole Passes = []
 item_steps source stem whole (Defines name text) = []
 item_steps source stem whole (Enters entry) = entry_steps source stem (whole - entry.left) entry
 
+-- what an item leaves of the texts that names were defined as
+abbrev pub known_behind : MacroTexts → Item → List (Name × List ℕ)
+known_behind macros Passes = macros.known
+known_behind macros (Defines name text) = (with_macro macros name text).known
+known_behind macros (Enters entry) = macros.known
+
 abbrev pub macros_behind : MacroTexts → Item → MacroTexts
-macros_behind macros Passes = macros
-macros_behind macros (Defines name text) = with_macro macros name text
-macros_behind macros (Enters entry) = macros
+macros_behind macros item = record { known = known_behind macros item; stand = macros.stand }
 
 -- a name that is no macro, or whose text makes its value too large
 abbrev pub macro_fault : ℕ → Option (List ℕ) → BibRefusal
@@ -94,7 +98,7 @@ macro_fault at None = UnknownMacro at
 abbrev pub limit_fault : ℕ → MacroTexts → List ℕ → BibRefusal
 limit_fault whole macros rest =
     if starts (nat_eq 123) rest then TooDeep (whole - length rest)
-    else macro_fault (whole - length rest) (text_of macros (run is_name_byte rest))
+    else macro_fault (whole - length rest) (text_of macros (run (is_name_byte macros.stand) rest))
 
 -- the fault of a reader that is left without an item
 abbrev pub IsFaultOf : ℕ → MacroTexts → Outcome ℕ Item → BibRefusal → Type 0

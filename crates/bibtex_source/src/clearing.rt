@@ -144,6 +144,7 @@ fn takes_comments(spot: Spot) -> bool
     ensures { result ≡ specs.takes_comments spot }
 {
     match spot {
+        Spot::Outside => true,
         Spot::BeforeKey(_) => true,
         Spot::Body(_) => true,
         _ => false,
@@ -174,7 +175,7 @@ fn turn(
     Ok((kept, false, next))
 }
 
-/// The text with blanks for comments within items and for each `@` that begins no item.
+/// The text with blanks for comments and for each `@` that begins no item.
 pub(crate) fn clear(alloc: Global, bytes: &[u8]) -> Result<Vec<u8>, NoMemory>
     ensures { IfOk result (λ v. v.items ≡ specs.cleared bytes.now) }
 {

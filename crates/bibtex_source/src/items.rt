@@ -36,9 +36,9 @@ fn macro_fault(
     rest: &[u8],
 ) -> Result<BibRefusal, NoMemory>
     ensures { IfOk result (λ e. e ≡ macro_fault (whole - length rest.now)
-        (text_of macros.now (run spec_bytes.is_name_byte rest.now))) }
+        (text_of macros.now (run (spec_bytes.is_name_byte macros.now.stand) rest.now))) }
 {
-    let (word, _) = written_bytes(alloc, rest)?;
+    let (word, _) = written_bytes(alloc, macros.stand, rest)?;
     match macros.text(alloc, word.as_slice())? {
         Some(_) => Ok(BibRefusal::TooLarge(place_of(whole, rest))),
         None => Ok(BibRefusal::UnknownMacro(place_of(whole, rest))),

@@ -8,11 +8,11 @@ use std::alloc::Global;
 use std::collections::BTreeMap;
 use std::marker::Model;
 
-/// The texts that names were defined as, and whether any other name stands for itself.
+/// The texts that names were defined as, and whether names are lenient.
 #[derive(Drop)]
 pub(crate) struct Macros {
     of: BTreeMap<Str, Str>,
-    stand: bool,
+    pub(crate) stand: bool,
 }
 
 impl Model for Macros {

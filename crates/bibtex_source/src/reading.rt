@@ -12,8 +12,8 @@ use crate::halt::Halt;
 use crate::macros::Macros;
 use crate::values::{has_room, tidy};
 use bibtex_bytes::{
-    behind_blanks, digits, is_digit, is_key_byte, is_letter, key_bytes, letters, name_bytes,
-    written_bytes,
+    begins_name, behind_blanks, digits, is_digit, is_key_byte, is_letter, key_bytes, letters,
+    name_bytes, written_bytes,
 };
 use bibtex_spec::{Entry, Field, Fields, Item, Nesting};
 use sd_value::Str;
@@ -35,6 +35,15 @@ pub(crate) fn has_letter(bytes: &[u8]) -> bool
     match bytes {
         [] => false,
         [b, ..] => is_letter(*b),
+    }
+}
+
+fn has_name(wide: bool, bytes: &[u8]) -> bool
+    ensures { result ≡ starts (specs.begins_name wide) bytes.now }
+{
+    match bytes {
+        [] => false,
+        [b, ..] => begins_name(wide, *b),
     }
 }
 
@@ -97,28 +106,28 @@ fn class_at(alloc: Global, bytes: &[u8]) -> Result<(Str, &[u8]), Halt>
 
 /// A name, in lower case.
 #[tactic(auto, unfolding(bibtex_spec::specs::Reading::read_name))]
-fn name_at(alloc: Global, bytes: &[u8]) -> Result<(Str, &[u8]), Halt>
-    ensures is { GivesPhrase (λ x. x.0) (λ x. x.1.now) result (read_name bytes.now) }
+fn name_at(alloc: Global, wide: bool, bytes: &[u8]) -> Result<(Str, &[u8]), Halt>
+    ensures is { GivesPhrase (λ x. x.0) (λ x. x.1.now) result (read_name wide bytes.now) }
     ensures shorter { IfOk result (λ x. length x.1.now ≤ length bytes.now) }
 {
-    if !has_letter(bytes) {
+    if !has_name(wide, bytes) {
         return Err(Halt::Expected(bytes));
     }
-    let (word, rest) = name_bytes(alloc, bytes)?;
+    let (word, rest) = name_bytes(alloc, wide, bytes)?;
     let name = Str::of(alloc, word)?;
     Ok((name, behind_blanks(rest)))
 }
 
 /// A name as it is written.
 #[tactic(auto, unfolding(bibtex_spec::specs::Reading::read_written))]
-fn written_at(alloc: Global, bytes: &[u8]) -> Result<(Vec<u8>, &[u8]), Halt>
-    ensures is { GivesPhrase (λ x. x.0.items) (λ x. x.1.now) result (read_written bytes.now) }
+fn written_at(alloc: Global, wide: bool, bytes: &[u8]) -> Result<(Vec<u8>, &[u8]), Halt>
+    ensures is { GivesPhrase (λ x. x.0.items) (λ x. x.1.now) result (read_written wide bytes.now) }
     ensures shorter { IfOk result (λ x. length x.1.now ≤ length bytes.now) }
 {
-    if !has_letter(bytes) {
+    if !has_name(wide, bytes) {
         return Err(Halt::Expected(bytes));
     }
-    let (word, rest) = written_bytes(alloc, bytes)?;
+    let (word, rest) = written_bytes(alloc, wide, bytes)?;
     Ok((word, behind_blanks(rest)))
 }
 
@@ -216,7 +225,7 @@ fn macro_at<'a>(
         (read_macro macros.now before.now bytes.now) }
     ensures shorter { IfOk result (λ x. length x.1.now ≤ length bytes.now) }
 {
-    let (name, rest) = written_at(alloc, bytes)?;
+    let (name, rest) = written_at(alloc, macros.stand, bytes)?;
     match macros.text(alloc, name.as_slice())? {
         Some(text) if has_room(before, text.bytes()) => Ok((text, rest)),
         _ => Err(Halt::Limit(bytes)),
@@ -312,7 +321,7 @@ fn field_at<'a>(
     ensures is { GivesPhrase (λ x. x.0) (λ x. x.1.now) result (read_field macros.now bytes.now) }
     ensures shorter { IfOk result (λ x. length x.1.now ≤ length bytes.now) }
 {
-    let (name, rest) = name_at(alloc, bytes)?;
+    let (name, rest) = name_at(alloc, macros.stand, bytes)?;
     let rest = mark_at(rest, b'=')?;
     let (joined, rest) = value_at(alloc, macros, rest)?;
     let text = tidy(alloc, joined.bytes())?;
@@ -334,7 +343,7 @@ fn fields_at<'a>(
     let mut rest = bytes;
     'fields: while has_mark(rest, b',') {
         let inner = mark_at(rest, b',')?;
-        if !has_letter(inner) {
+        if !has_name(macros.stand, inner) {
             return Ok((fields, inner));
         }
         let (field, after) = field_at(alloc, macros, inner)?;
@@ -381,7 +390,7 @@ fn definition_at<'a>(
     ensures shorter { IfOk result (λ x. length x.1.now ≤ length bytes.now) }
 {
     let (close, rest) = open_at(bytes)?;
-    let (name, rest) = name_at(alloc, rest)?;
+    let (name, rest) = name_at(alloc, macros.stand, rest)?;
     let rest = mark_at(rest, b'=')?;
     let (text, rest) = value_at(alloc, macros, rest)?;
     let rest = mark_at(rest, close)?;

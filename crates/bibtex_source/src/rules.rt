@@ -3,9 +3,10 @@
 /// How a BibTeX text is read.
 #[derive(Clone, Copy, Debug, PartialEq, Eq)]
 pub struct BibRules {
-    /// A name that no `@string` defines stands for itself, as it is written.
+    /// Names may begin with `_` and have bytes beyond ASCII, and one that no `@string` defines stands for itself, as it is
+    /// written.
     pub names: bool,
-    /// Comments within items, and each `@` that begins no item, are passed over.
+    /// Comments, and each `@` that begins no item, are passed over.
     pub comments: bool,
     /// Texts are those that TeX shows, and a month is its number.
     pub readable: bool,

@@ -14,11 +14,15 @@ is_letter b = is_capital b || (nat_le 97 b && nat_le b 122)
 abbrev pub is_digit : ℕ → Bool
 is_digit b = nat_le 48 b && nat_le b 57
 
--- letters, digits and `_ - : . + /`
-abbrev pub is_name_byte : ℕ → Bool
-is_name_byte b =
+-- what a name begins with: a letter, and where names are wide also `_` or a byte beyond ASCII
+abbrev pub begins_name : (wide : Bool) → ℕ → Bool
+begins_name wide b = is_letter b || ((nat_eq b 95 || nat_le 128 b) && wide)
+
+-- letters, digits and `_ - : . + /`, and where names are wide also bytes beyond ASCII
+abbrev pub is_name_byte : (wide : Bool) → ℕ → Bool
+is_name_byte wide b =
     is_letter b || is_digit b || nat_eq b 95 || nat_eq b 45 || nat_eq b 58 || nat_eq b 46
-    || nat_eq b 43 || nat_eq b 47
+    || nat_eq b 43 || nat_eq b 47 || (nat_le 128 b && wide)
 
 -- any but blanks, `,`, `}` and `)`
 abbrev pub is_key_byte : ℕ → Bool

@@ -1,5 +1,5 @@
--- A text in which blanks stand for what a lenient reader passes over: a comment within an item, from a `%` where blanks
--- may stand to the end of its line, and an `@` that begins no item. Each byte keeps its place.
+-- A text in which blanks stand for what a lenient reader passes over: a comment, from a `%` between items or where blanks
+-- may stand within one to the end of its line, and an `@` that begins no item. Each byte keeps its place.
 use Rattle.std.specs.Prelude.{◌||◌, ◌&&◌, ℕ, Bool, true, false, List, [], ◌∷◌, codes, map, nat_eq, if◌then◌else◌, Option, Some, None}
 use Rattle.std.specs.Str.{bytes_eq}
 use Rattle.grammar.specs.Reading.{starts}
@@ -69,7 +69,7 @@ passed (Text ends depth close) b bytes = (b, behind_text ends depth close (nesti
 
 -- whether a comment may begin here
 abbrev pub takes_comments : Spot → Bool
-takes_comments Outside = false
+takes_comments Outside = true
 takes_comments (Word keyed) = false
 takes_comments (BeforeKey close) = true
 takes_comments (Key close) = false

@@ -6,7 +6,7 @@ use Rattle.sd_value.specs.Order.{bytes_cmp}
 use Rattle.graph_spec.specs.DataGraph.{Name}
 use Rattle.bibtex_spec.specs.Bytes.{lower}
 
--- The texts that names were defined as, and whether any other name stands for itself.
+-- The texts that names were defined as, and whether names are lenient: they are wide, and any other stands for itself.
 pub record MacroTexts : Type 0 where
   pub known : List (Name × List ℕ)
   pub stand : Bool

@@ -19,7 +19,7 @@ use Rattle.bibtex_spec.specs.declared.Item.{Item}
 use Rattle.bibtex_spec.specs.declared.Item.TheVariants.{Passes, Defines, Enters}
 use Rattle.bibtex_spec.specs.declared.Nesting.{Nesting}
 use Rattle.bibtex_spec.specs.declared.Nesting.TheVariants.{Closes, Unpaired, TooDeep, Goes}
-use Rattle.bibtex_spec.specs.Bytes.{is_blank, is_letter, is_digit, is_name_byte, is_key_byte, lower, run, behind}
+use Rattle.bibtex_spec.specs.Bytes.{is_blank, is_letter, is_digit, is_name_byte, is_key_byte, lower, run, behind, begins_name}
 use Rattle.bibtex_spec.specs.Values.{tidy, has_room}
 use Rattle.bibtex_spec.specs.Macros.{MacroTexts, text_of}
 
@@ -59,12 +59,12 @@ read_open = spaced (take_one true closing)
 unfoldable pub read_class : List ℕ → Outcome ℕ (List ℕ)
 read_class = spaced (choose is_letter (read_lower is_letter) stuck)
 
-unfoldable pub read_name : List ℕ → Outcome ℕ (List ℕ)
-read_name = spaced (choose is_letter (read_lower is_name_byte) stuck)
+unfoldable pub read_name : (wide : Bool) → List ℕ → Outcome ℕ (List ℕ)
+read_name wide = spaced (choose (begins_name wide) (read_lower (is_name_byte wide)) stuck)
 
 -- a name as it is written
-unfoldable pub read_written : List ℕ → Outcome ℕ (List ℕ)
-read_written = spaced (choose is_letter (read_run is_name_byte) stuck)
+unfoldable pub read_written : (wide : Bool) → List ℕ → Outcome ℕ (List ℕ)
+read_written wide = spaced (choose (begins_name wide) (read_run (is_name_byte wide)) stuck)
 
 unfoldable pub read_key : List ℕ → Outcome ℕ (List ℕ)
 read_key = spaced (choose is_key_byte (read_run is_key_byte) stuck)
@@ -113,7 +113,8 @@ macro_read before bytes rest None = Past bytes
 
 unfoldable pub read_macro : MacroTexts → List ℕ → List ℕ → Outcome ℕ (List ℕ)
 read_macro macros before bytes =
-    and_then (read_written bytes) (λ name rest. macro_read before bytes rest (text_of macros name))
+    and_then (read_written macros.stand bytes)
+    (λ name rest. macro_read before bytes rest (text_of macros name))
 
 unfoldable pub read_piece : MacroTexts → List ℕ → List ℕ → Outcome ℕ (List ℕ)
 read_piece macros before =
@@ -135,7 +136,7 @@ read_value macros = do
 
 unfoldable pub read_field : MacroTexts → List ℕ → Outcome ℕ Field
 read_field macros = do
-  name ← read_name
+  name ← read_name macros.stand
   read_mark 61
   text ← read_value macros
   give (record { name = name; text = tidy text })
@@ -146,7 +147,7 @@ listed macros zero = give []
 listed macros (suc turns) =
     choose (nat_eq 44)
     (read_mark 44 >>
-    choose is_letter
+    choose (begins_name macros.stand)
     (read_field macros >>= λ field. listed macros turns >>= λ fields. give (field ∷ fields))
     (give [])) (give [])
 
@@ -165,7 +166,7 @@ read_entry macros class = do
 unfoldable pub read_definition : MacroTexts → List ℕ → Outcome ℕ Item
 read_definition macros = do
   close ← read_open
-  name ← read_name
+  name ← read_name macros.stand
   read_mark 61
   text ← read_value macros
   read_mark close

@@ -65,7 +65,7 @@ limit_fails : (whole : ℕ) (macros : MacroTexts) (rest : List ℕ) → IsItself
 limit_fails whole macros rest = by (starts (nat_eq 123) rest)
   where
     named : Option (List ℕ)
-    named = text_of macros (run is_name_byte rest)
+    named = text_of macros (run (is_name_byte macros.stand) rest)
 
     by : (b : Bool) → IsItself (if b then TooDeep (whole - length rest) else macro_fault (whole - length rest) named)
     by true = refl

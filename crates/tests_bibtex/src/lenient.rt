@@ -84,10 +84,46 @@ const ROWS: &[Row] = &[
         graph: b"object \"k\" in \"b\", \"misc\" {\n  \"n\" \"% x\"\n}\n",
         ..ROW
     },
-    // What stands outside of items is no comment, and an item in it is read.
+    // Outside of items too: a line, an entry line by line, and the first line of a form.
     Row {
-        text: b"% @misc{k}\n@comment{x} @ % @misc {l} % @misc",
+        text: b"% @misc{k}\n@comment{x} @ % @misc {l}\r@misc {m} % @misc",
+        graph: b"object \"m\" in \"b\", \"misc\" {\n}\n",
+        ..ROW
+    },
+    Row {
+        text: b"%@misc{k,\n%  note = 1\n%}\n@misc{l}",
+        graph: b"object \"l\" in \"b\", \"misc\" {\n}\n",
+        ..ROW
+    },
+    Row {
+        text: b"%@misc{,\n note = 1\n}\n@misc{l}",
+        graph: b"object \"l\" in \"b\", \"misc\" {\n}\n",
+        ..ROW
+    },
+    // Strictly such an entry is read as any other.
+    Row {
+        text: b"% @misc{k}\n@misc{l}",
+        rules: BibRules::STRICT,
         graph: b"object \"k\" in \"b\", \"misc\" {\n}\nobject \"l\" in \"b\", \"misc\" {\n}\n",
+        ..ROW
+    },
+    // Names with bytes beyond ASCII, and with an underscore first: of fields and of macros, that stand for their texts
+    // or for themselves.
+    Row {
+        text: b"@string{Gr\xc3\xb6\xc3\x9fe = {5}} @a{k, _t = gr\xc3\xb6\xc3\x9fe # _u # \xc3\xa9, __m1 = 1}",
+        graph: b"object \"k\" in \"a\", \"b\" {\n  \"__m1\" 1\n  \"_t\" \"5_u\xc3\xa9\"\n}\n",
+        ..ROW
+    },
+    Row {
+        text: b"@a{k, _t = 1}",
+        rules: BibRules::STRICT,
+        refusal: Some(BibRefusal::Expected(6)),
+        ..ROW
+    },
+    Row {
+        text: b"@string{G\xc3\xb6 = {5}}",
+        rules: BibRules::STRICT,
+        refusal: Some(BibRefusal::Expected(9)),
         ..ROW
     },
     // An item that isn't whole is refused, at its place in the file.

@@ -185,6 +185,98 @@ const EASTERN: &[Title] = &[
     },
 ];
 
+// Of bibliographies in Debian's packages.
+const PACKAGED: &[Title] = &[
+    Title {
+        tex: "La Gen{\\`{e}}se de l'Id{\\'{e}}e de Hasard chez l'Enfant",
+        shown: "La Genèse de l'Idée de Hasard chez l'Enfant",
+    },
+    Title {
+        tex: "Diccionario de la Lengua Espa\\~{n}ola",
+        shown: "Diccionario de la Lengua Española",
+    },
+    Title {
+        tex: "The Encyclop\\ae dia of Typefaces",
+        shown: "The Encyclopædia of Typefaces",
+    },
+    Title {
+        tex: "Dielektrische {T}heorie des elektronischen {E}nergieverlustes schwerer {I}onen in {F}estk\\\"orpern",
+        shown: "Dielektrische Theorie des elektronischen Energieverlustes schwerer Ionen in Festkörpern",
+    },
+    Title {
+        tex: "{Localidades fossil{\\'{i}}feras da Forma{\\c{c}}{\\~{a}}o Pirabas (Mioceno Inferior)}",
+        shown: "Localidades fossilíferas da Formação Pirabas (Mioceno Inferior)",
+    },
+    Title {
+        tex: "{Sur les T{\\'{e}}l{\\'{e}}ost{\\'{e}}ens du Rup{\\'{e}}lien}",
+        shown: "Sur les Téléostéens du Rupélien",
+    },
+    Title {
+        tex: "Le pass\\'{e} d'une illusion",
+        shown: "Le passé d'une illusion",
+    },
+    Title {
+        tex: "{Die sch\\\"one M\\\"ullerin} ({The} Maid of the Mill)",
+        shown: "Die schöne Müllerin (The Maid of the Mill)",
+    },
+    Title {
+        tex: "Unzeitgem{\\\"a}sse Betrachtungen. Zweites St{\\\"u}ck",
+        shown: "Unzeitgemässe Betrachtungen. Zweites Stück",
+    },
+    Title {
+        tex: "Die nordischen L{\\\"a}nder von der Mitte des 11.~Jahrhunderts bis 1448",
+        shown: "Die nordischen Länder von der Mitte des 11. Jahrhunderts bis 1448",
+    },
+    Title {
+        tex: "Autrement qu'\\^etre ou au-del\\`a de l'essence",
+        shown: "Autrement qu'être ou au-delà de l'essence",
+    },
+    Title {
+        tex: "Solutions p\\'{e}riodiques, du p\\'{e}riode donn\\'{e}e, des \\'{e}quations hamiltoniennes",
+        shown: "Solutions périodiques, du période donnée, des équations hamiltoniennes",
+    },
+    Title {
+        tex: "Cuando la fe mueve monta{\\~n}as",
+        shown: "Cuando la fe mueve montañas",
+    },
+    Title {
+        tex: "Histoire de l'{\\'e}dition fran{\\c{c}}aise",
+        shown: "Histoire de l'édition française",
+    },
+    Title {
+        tex: "{\\LaTeX}. Profesjonalny sk{\\l}ad publikacji",
+        shown: "LaTeX. Profesjonalny skład publikacji",
+    },
+    Title {
+        tex: "{\\TeX}nika {\\L}adnego Druku",
+        shown: "TeXnika Ładnego Druku",
+    },
+    Title {
+        tex: "Dzielenie wyraz{\\'o}w polskich w systemie {\\TeX}",
+        shown: "Dzielenie wyrazów polskich w systemie TeX",
+    },
+    Title {
+        tex: "{\\LaTeX} pro za{\\v{c}}{\\'a}te{\\v{c}}n{\\'\\i}ky",
+        shown: "LaTeX pro začátečníky",
+    },
+    Title {
+        tex: "Typografick{\\'y} syst{\\'e}m {\\TeX}",
+        shown: "Typografický systém TeX",
+    },
+    Title {
+        tex: "{V{\\\"a}ike Eesti {\\TeX}iraamat}",
+        shown: "Väike Eesti TeXiraamat",
+    },
+    Title {
+        tex: "Proze{\\ss}automatisierung",
+        shown: "Prozeßautomatisierung",
+    },
+    Title {
+        tex: "Elektrotehni{\\v{s}}ki Vestnik",
+        shown: "Elektrotehniški Vestnik",
+    },
+];
+
 const PLAIN: &[Title] = &[
     Title {
         tex: "A Mathematician's Apology",
@@ -239,6 +331,11 @@ fn titles_of_the_west_are_readable(rt: HostRuntime) -> Result<(), Fail> {
 #[test]
 fn titles_of_the_east_and_north_are_readable(rt: HostRuntime) -> Result<(), Fail> {
     check_titles(rt.alloc(), EASTERN)
+}
+
+#[test]
+fn titles_of_packaged_bibliographies_are_readable(rt: HostRuntime) -> Result<(), Fail> {
+    check_titles(rt.alloc(), PACKAGED)
 }
 
 #[test]

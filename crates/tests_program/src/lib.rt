@@ -38,3 +38,5 @@ mod served;
 mod site;
 #[cfg(test)]
 mod statuses;
+#[cfg(test)]
+mod templates;

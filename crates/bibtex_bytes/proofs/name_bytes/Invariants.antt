@@ -4,7 +4,7 @@ use Rattle.bibtex_bytes.proofs.Runs.{IsLowerFront}
 use Rattle.bibtex_bytes.proofs.name_bytes.Given as goal
 
 abbrev pub invariant-name : goal.invariant-name
-invariant-name l = IsLowerFront is_name_byte l.name.items l.rest l.bytes
+invariant-name l = IsLowerFront (is_name_byte l.wide) l.name.items l.rest l.bytes
 
 abbrev pub decreases-name : goal.decreases-name
 decreases-name l = length l.rest
