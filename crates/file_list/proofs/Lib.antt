@@ -1,0 +1,7 @@
+mod Ascending
+mod Lines
+mod Maps
+mod Ones
+mod Leaving
+mod Removals
+mod Rises
