@@ -12,16 +12,22 @@ ghost use Rattle.certificate_search.specs.Budget.{Spends};
 
 use crate::budget::{SearchStop, spend};
 use crate::due::goes_on;
+use crate::nones::have_nones;
 use crate::search::Search;
 use entailment::Judge;
-use query_spec::Variable;
+use query_spec::{Sort, Variable};
 use sd_value::{NoMemory, Str};
 use std::alloc::Global;
 
-fn has_sort(variable: &Variable, arc: bool) -> bool
-    ensures { result ≡ same_sort variable.now.arc arc }
+fn has_sort(variable: &Variable, sort: Sort) -> bool
+    ensures { result ≡ same_sort variable.now.sort sort }
 {
-    if variable.arc { arc } else { !arc }
+    match (variable.sort, sort) {
+        (Sort::Node, Sort::Node) | (Sort::Arc, Sort::Arc) | (Sort::Computed, Sort::Computed) => {
+            true
+        }
+        _ => false,
+    }
 }
 
 // Maps the variable to the target behind the names, if that is allowed.
@@ -40,7 +46,7 @@ fn maps<J: Judge>(
         (term_of search.now.source.now) (option_map term_of (option_copied search.now.target)))
         variable.now target.now names.old.items names.new.items) }
 {
-    if !has_sort(target, variable.arc) {
+    if !has_sort(target, variable.sort) {
         return Ok(false);
     }
     names.push(target.name.copy(alloc)?)?;
@@ -73,7 +79,7 @@ fn extend<J: Judge>(
         search.now.targets.now left.now names.old.items) budget.old budget.new result }
 {
     let [variable, rest @ ..] = left else {
-        return Ok(true);
+        return Ok(have_nones(alloc, search, names)?);
     };
     for target in search.targets {
         spend(budget)?;

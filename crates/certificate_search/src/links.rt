@@ -13,7 +13,7 @@ use query_blocks::{QueryBlock, QueryBlocks};
 use query_spec::Variable;
 use sd_value::NoMemory;
 use std::alloc::Global;
-use struql_ast::{Chain, Condition, Link};
+use struql_ast::{Chain, Condition, Link, NoneOf};
 
 /// A link of a query.
 #[derive(Drop)]
@@ -22,6 +22,8 @@ pub struct NumberedLink<'a> {
     pub number: usize,
     /// The conditions of its chain.
     pub conditions: &'a [Condition],
+    /// The NONEs of its chain.
+    pub nones: &'a [NoneOf],
     /// The variables of its chain.
     pub variables: &'a [Variable],
     /// The link.
@@ -50,6 +52,7 @@ fn numbered<'a>(
     Ok(NumberedLink {
         number,
         conditions,
+        nones: chain.nones(),
         variables,
         link,
         depths,

@@ -6,10 +6,18 @@ ghost use Rattle.site_inputs.specs.Runs.{ReadsHaveCause};
 ghost use Rattle.site_inputs.specs.Sites.{QueryEnds};
 
 use edge_io::Files;
+use order_spec::Order;
 use query_scoping::ScopedQuery;
 use sd_value::Str;
 use site_inputs::{Fault, load_query};
 use std::alloc::Global;
+
+/// A checked query with its blocks, and its ORDERs.
+#[derive(Drop)]
+pub(crate) struct OrderedScoped {
+    pub orders: Vec<Order>,
+    pub scoped: ScopedQuery,
+}
 
 /// The checked query of a file, with its blocks.
 /// # Errors
@@ -18,7 +26,7 @@ pub(crate) fn load_scoped_query<F: Files>(
     alloc: Global,
     files: &mut F,
     path: &Str,
-) -> Result<ScopedQuery, Fault>
+) -> Result<OrderedScoped, Fault>
     ensures ends { ForSome (F.contents files.old) (λ map. QueryEnds map path.now result) }
     ensures same { F.contents files.new ≡ F.contents files.old }
     ensures cause { ReadsHaveCause (path.now ∷ [])
@@ -29,6 +37,7 @@ pub(crate) fn load_scoped_query<F: Files>(
         (λ map. QueryEnds map path.now result) }
 {
     let query = load_query(alloc, files, path)?;
-    let scoped = ScopedQuery::of(alloc, query)?;
-    Ok(scoped)
+    let orders = query.orders;
+    let scoped = ScopedQuery::of(alloc, query.checked)?;
+    Ok(OrderedScoped { orders, scoped })
 }

@@ -11,7 +11,7 @@ mod run_texts;
 
 use command_spec::DATA_LIMIT;
 pub use composed::read_text;
-pub use edits::{read_text_edit, spared};
+pub use edits::{read_text_edit, remade, spared};
 pub use run_texts::{RunText, edits_are_no_data, read_run_text};
 use sd_ddl::read_ddl;
 use sd_graph::{Graph, GraphBuilder, PROGRAM_LIMITS};

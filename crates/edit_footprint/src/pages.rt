@@ -36,7 +36,7 @@ pub fn touches_pages(
         → SamePages (scope_of scopes.now) (file_of templates.now) function.now G H) }
 {
     let parts = footprint(alloc, scopes, templates, function)?;
-    Ok(touches(scopes, &parts, edit))
+    touches(alloc, scopes, &parts, edit)
 }
 
 /// After every list of edits none of which touches the footprint of a function, each of its terms has the outcome that it

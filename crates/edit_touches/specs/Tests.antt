@@ -5,7 +5,9 @@ use Rattle.rpe.specs.Regex.{Regex, label, any, empty, seq, alt, star}
 use Rattle.graph_spec.specs.DataGraph.{Name}
 use Rattle.query_spec.specs.declared.Variable.{Variable}
 use Rattle.query_spec.specs.Query.{Operand, variable, constant, PathStep, arc_variable, expression}
-use Rattle.query_spec.specs.Query.{Condition, member, path, compare, one_of, kind, negation}
+use Rattle.query_spec.specs.Query.{Condition, member, path, compare, one_of, kind, negation, gives}
+use Rattle.query_spec.specs.declared.Sort.{Sort}
+use Rattle.query_spec.specs.declared.Sort.TheVariants.{Node, Arc, Computed}
 use Rattle.query_spec.specs.Mentions.{same_name}
 use Rattle.edit_spec.specs.declared.Edit.{Edit}
 use Rattle.edit_spec.specs.declared.Edit.TheVariants.{Add, Remove, Enter, Leave}
@@ -46,6 +48,7 @@ finds_node x (compare t o u) = false
 finds_node x (one_of t vs) = false
 finds_node x (kind k y) = false
 finds_node x (negation c) = false
+finds_node x (gives computes t sign f args) = false
 
 -- the step is the arc variable x
 abbrev pub is_arc : Name → PathStep → Bool
@@ -60,14 +63,30 @@ finds_label x (compare t o u) = false
 finds_label x (one_of t vs) = false
 finds_label x (kind k y) = false
 finds_label x (negation c) = false
+finds_label x (gives computes t sign f args) = false
+
+-- the condition finds a variable of the sort
+abbrev pub finds_as : Sort → Name → Condition → Bool
+finds_as Arc x k = finds_label x k
+finds_as Node x k = finds_node x k
+finds_as Computed x k = false
 
 -- the condition finds the variable
 abbrev pub finds : Variable → Condition → Bool
-finds v k = if v.arc then finds_label v.name k else finds_node v.name k
+finds v k = finds_as v.sort v.name k
 
--- each variable is found by some condition
+-- calls give a variable of the sort its values
+abbrev pub is_computed : Sort → Bool
+is_computed Computed = true
+is_computed s = false
+
+-- calls give the variable its values, or some condition finds it
+abbrev pub is_kept : Variable → List Condition → Bool
+is_kept v conditions = is_computed v.sort || list_any (finds v) conditions
+
+-- each variable is found by some condition, but for those to which calls give values
 abbrev pub is_guarded : List Variable → List Condition → Bool
-is_guarded variables conditions = list_all (λ v. list_any (finds v) conditions) variables
+is_guarded variables conditions = list_all (λ v. is_kept v conditions) variables
 
 -- the step reads the label
 abbrev pub may_read : Name → PathStep → Bool
@@ -82,6 +101,7 @@ reads_label l (member c x) = false
 reads_label l (compare t o u) = false
 reads_label l (one_of t vs) = false
 reads_label l (kind k x) = false
+reads_label l (gives computes t sign f args) = false
 
 -- the condition, also under `not`, names the collection
 abbrev pub reads_collection : Name → Condition → Bool
@@ -91,6 +111,7 @@ reads_collection c (path t s u) = false
 reads_collection c (compare t o u) = false
 reads_collection c (one_of t vs) = false
 reads_collection c (kind k x) = false
+reads_collection c (gives computes t sign f args) = false
 
 -- the condition reads what is edited
 abbrev pub is_concerned : Edit → Condition → Bool

@@ -53,7 +53,7 @@ fn add_members(
 }
 
 /// A builder of an equal graph.
-pub(crate) fn builder_of(
+pub fn builder_of(
     alloc: Global,
     limits: Limits,
     graph: &Graph,

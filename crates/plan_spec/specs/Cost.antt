@@ -1,8 +1,9 @@
 -- What it costs to use a condition next.
 use Rattle.std.specs.Prelude.{ℕ, ◌+◌, ◌*◌, ◌/◌, max, List, Option, None, Some, Bool, true, false, ◌&&◌, ◌||◌, if◌then◌else◌, slice_index_or}
+use Rattle.std.specs.List.{list_all}
 use Rattle.store.specs.declared.Sizes.{Sizes}
 use Rattle.plan_spec.specs.declared.Kind.{Kind}
-use Rattle.plan_spec.specs.declared.Kind.TheVariants.{Test, Equal, Listed, Edges, Walk}
+use Rattle.plan_spec.specs.declared.Kind.TheVariants.{Test, Equal, Listed, Edges, Walk, Call}
 use Rattle.plan_spec.specs.declared.Shape.{Shape}
 
 -- the variable is bound, or there is none
@@ -10,9 +11,14 @@ abbrev pub side_bound : List Bool → Option ℕ → Bool
 side_bound bound None = true
 side_bound bound (Some x) = slice_index_or bound x false
 
+-- what a condition needs is bound
+abbrev pub needs_bound : List Bool → Shape → Bool
+needs_bound bound c = list_all (λ x. slice_index_or bound x false) c.needs.items
+
 -- all variables of a condition are bound
 abbrev pub all_bound : List Bool → Shape → Bool
-all_bound bound c = side_bound bound c.from && side_bound bound c.arc && side_bound bound c.to
+all_bound bound c =
+    side_bound bound c.from && side_bound bound c.arc && side_bound bound c.to && needs_bound bound c
 
 -- an end of a path, or a side of a comparison
 abbrev pub end_bound : List Bool → Shape → Bool
@@ -29,14 +35,16 @@ walk_cost_of edges values true = edges + 1
 walk_cost_of edges values false = (edges + 1) * values
 
 -- the cost while some variable is free
-abbrev pub free_cost_of : Sizes → Kind → Bool → Option ℕ
-free_cost_of sizes Test end = None
-free_cost_of sizes (Equal cost) end = if end then Some cost else None
-free_cost_of sizes (Listed cost) end = Some cost
-free_cost_of sizes (Edges count) end = Some (edges_cost_of sizes.nodes count end)
-free_cost_of sizes Walk end = Some (walk_cost_of sizes.edges sizes.values end)
+abbrev pub free_cost_of : Sizes → Kind → Bool → Bool → Option ℕ
+free_cost_of sizes Test end needs = None
+free_cost_of sizes (Equal cost) end needs = if end then Some cost else None
+free_cost_of sizes (Listed cost) end needs = Some cost
+free_cost_of sizes (Edges count) end needs = Some (edges_cost_of sizes.nodes count end)
+free_cost_of sizes Walk end needs = Some (walk_cost_of sizes.edges sizes.values end)
+free_cost_of sizes (Call cost) end needs = if needs then Some cost else None
 
 -- what it costs to use the condition now, where it can be used
 abbrev pub cost_of : Sizes → List Bool → Shape → Option ℕ
 cost_of sizes bound c =
-    if all_bound bound c then Some 0 else free_cost_of sizes c.kind (end_bound bound c)
+    if all_bound bound c then Some 0
+    else free_cost_of sizes c.kind (end_bound bound c) (needs_bound bound c)

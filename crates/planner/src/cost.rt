@@ -24,7 +24,15 @@ pub(crate) fn are_bound(shape: &Shape, bound: &[bool]) -> bool
     let from = is_bound(shape.from, bound);
     let arc = is_bound(shape.arc, bound);
     let to = is_bound(shape.to, bound);
-    from && arc && to
+    from && arc && to && needs_are_bound(shape, bound)
+}
+
+/// Whether what the condition needs is bound.
+pub(crate) fn needs_are_bound(shape: &Shape, bound: &[bool]) -> bool
+    requires { ShapeInRange (length bound.now) shape.now }
+    ensures { result ≡ needs_bound bound.now shape.now }
+{
+    shape.needs.iter().all(|variable| bound[*variable as usize])
 }
 
 fn an_end_bound(shape: &Shape, bound: &[bool]) -> bool
@@ -58,8 +66,8 @@ fn walk_cost(sizes: Sizes, end: bool) -> u128
     }
 }
 
-fn free_cost(shape: &Shape, sizes: Sizes, end: bool) -> Option<u128>
-    ensures { result ≡ free_cost_of sizes shape.now.kind end }
+fn free_cost(shape: &Shape, sizes: Sizes, end: bool, needs: bool) -> Option<u128>
+    ensures { result ≡ free_cost_of sizes shape.now.kind end needs }
 {
     match shape.kind {
         Kind::Test => None,
@@ -67,6 +75,7 @@ fn free_cost(shape: &Shape, sizes: Sizes, end: bool) -> Option<u128>
         Kind::Listed(cost) => Some(cost),
         Kind::Edges(count) => Some(edges_cost(sizes, count, end)),
         Kind::Walk => Some(walk_cost(sizes, end)),
+        Kind::Call(cost) => if needs { Some(cost) } else { None },
     }
 }
 
@@ -79,6 +88,6 @@ pub fn cost(shape: &Shape, sizes: Sizes, bound: &[bool]) -> Option<u128>
         Some(0)
     } else {
         let end = an_end_bound(shape, bound);
-        free_cost(shape, sizes, end)
+        free_cost(shape, sizes, end, needs_are_bound(shape, bound))
     }
 }

@@ -3,7 +3,7 @@ ghost use Rattle.std.specs.Prelude.{◌≡◌, ◌↔◌, ◌<◌, ◌≤◌, �
 ghost use Rattle.std.specs.Prelude.{Some, slice_get, slice_set, true, false, if◌then◌else◌};
 ghost use Rattle.plan_spec.specs.Cost.{cost_of};
 ghost use Rattle.planner.specs.Ranges.{SideInRange, ShapeInRange, ShapesInRange};
-ghost use Rattle.plan_spec.specs.Plan.{CanUse, IsBest, IsFirstFree, AllFalse, Uses, IsPlan, bind, bind_all};
+ghost use Rattle.plan_spec.specs.Plan.{CanUse, IsBest, IsOpen, IsFirstOpen, size_of, AllFalse, Uses, IsPlan, bind, bind_all};
 ghost use Rattle.planner.specs.Choices.{IsBetter, CostsNothing, IsBestFrom, AreCostlyBefore, LooksFrom, BindsShape, TakesDomain, IsNext};
 ghost use Rattle.std.specs.Prelude.{List, Bool};
 ghost use Rattle.store.specs.declared.Sizes.{Sizes as PlainSizes};
@@ -15,7 +15,7 @@ ghost use Rattle.plan_spec.specs.Shape.{IsPlanOf};
 use crate::cost::{are_bound, cost};
 use crate::shape::shapes_of_chain;
 use plan_spec::{Counts, PlanStep, Shape};
-use query_spec::arcs_of_variables;
+use query_spec::{Sort, sorts_of_variables};
 use sd_value::NoMemory;
 use std::alloc::{AllocError, Global};
 use std::marker::Model;
@@ -127,12 +127,17 @@ fn look_from(shapes: &[Shape], condition: usize, bound: &[bool]) -> usize
     }
 }
 
-fn first_free(bound: &[bool]) -> Option<usize>
-    ensures { MatchOption result ((x : ℕ) → slice_get bound.now x ≡ Some false → ⊥)
-        (λ x. IsFirstFree bound.now x) }
+fn is_computed(sort: Sort) -> bool {
+    matches!(sort, Sort::Computed)
+}
+
+fn first_open(sorts: &[Sort], bound: &[bool]) -> Option<usize>
+    requires { length sorts.now ≡ length bound.now }
+    ensures { MatchOption result ((x : ℕ) → IsOpen sorts.now bound.now x → ⊥)
+        (λ x. IsFirstOpen sorts.now bound.now x) }
 {
     for x in 0..bound.len() {
-        if !bound[x] {
+        if !bound[x] && !is_computed(sorts[x]) {
             return Some(x);
         }
     }
@@ -157,13 +162,13 @@ fn bind_shape(shape: &Shape, bound: &mut Vec<bool>)
     bind_side(shape.to, bound);
 }
 
-fn domain_size(sizes: Sizes, arc: bool) -> u128
-    ensures { result ≡ (if arc then sizes.labels else sizes.values) }
+fn domain_size(sizes: Sizes, sort: Sort) -> u128
+    ensures { result ≡ size_of sizes sort }
 {
-    if arc {
-        sizes.labels as u128
-    } else {
-        sizes.values as u128
+    match sort {
+        Sort::Node => sizes.values as u128,
+        Sort::Arc => sizes.labels as u128,
+        Sort::Computed => 0,
     }
 }
 
@@ -180,14 +185,14 @@ fn use_condition(shapes: &[Shape], condition: usize, used: &mut Vec<bool>, bound
 }
 
 // Gives the first free variable its domain, if there is one.
-fn take_domain(arcs: &[bool], sizes: Sizes, bound: &mut Vec<bool>) -> Option<PlanStep>
-    requires one_each { length arcs.now ≡ length bound.old.items }
+fn take_domain(sorts: &[Sort], sizes: Sizes, bound: &mut Vec<bool>) -> Option<PlanStep>
+    requires one_each { length sorts.now ≡ length bound.old.items }
     requires few_variables { length bound.old.items < 2 ^ 32 }
     ensures lengths { length bound.new.items ≡ length bound.old.items }
-    ensures step { TakesDomain sizes arcs.now bound.old.items result bound.new.items }
+    ensures step { TakesDomain sizes sorts.now bound.old.items result bound.new.items }
 {
-    let variable = first_free(bound.as_slice())?;
-    let cost = domain_size(sizes, arcs[variable]);
+    let variable = first_open(sorts, bound.as_slice())?;
+    let cost = domain_size(sizes, sorts[variable]);
     bound[variable] = true;
     Some(PlanStep::Domain {
         variable: variable as u32,
@@ -199,7 +204,7 @@ fn take_domain(arcs: &[bool], sizes: Sizes, bound: &mut Vec<bool>) -> Option<Pla
 // `from` costs nothing.
 fn advance(
     shapes: &[Shape],
-    arcs: &[bool],
+    sorts: &[Sort],
     sizes: Sizes,
     used: &mut Vec<bool>,
     bound: &mut Vec<bool>,
@@ -207,7 +212,7 @@ fn advance(
 ) -> Option<PlanStep>
     requires in_range { ShapesInRange (length bound.old.items) shapes.now }
     requires as_long { length used.old.items ≡ length shapes.now }
-    requires one_each { length arcs.now ≡ length bound.old.items }
+    requires one_each { length sorts.now ≡ length bound.old.items }
     requires few_conditions { length shapes.now < 2 ^ 32 }
     requires few_variables { length bound.old.items < 2 ^ 32 }
     requires costly_before { AreCostlyBefore sizes shapes.now used.old.items bound.old.items
@@ -216,19 +221,19 @@ fn advance(
         from.new }
     ensures lengths { (length used.new.items ≡ length used.old.items)
         × (length bound.new.items ≡ length bound.old.items) }
-    ensures step { IsNext sizes arcs.now shapes.now used.old.items bound.old.items result
+    ensures step { IsNext sizes sorts.now shapes.now used.old.items bound.old.items result
         used.new.items bound.new.items }
 {
     if let Some(next) = best(shapes, sizes, used.as_slice(), bound.as_slice(), *from) {
         *from = look_from(shapes, next.condition, bound.as_slice());
         use_condition(shapes, next.condition, used, bound);
         return Some(PlanStep::Use {
-            condition: next.condition as u32,
+            condition: next.condition,
             cost: next.cost,
         });
     }
     *from = 0;
-    take_domain(arcs, sizes, bound)
+    take_domain(sorts, sizes, bound)
 }
 
 /// The steps of a plan.
@@ -269,15 +274,15 @@ fn none_used(alloc: Global, count: usize) -> Result<Vec<bool>, AllocError>
 pub(crate) fn make_plan(
     alloc: Global,
     shapes: &[Shape],
-    arcs: &[bool],
+    sorts: &[Sort],
     sizes: Sizes,
     bound: &[bool],
 ) -> Result<StepList, AllocError>
     requires in_range { ShapesInRange (length bound.now) shapes.now }
-    requires one_each { length arcs.now ≡ length bound.now }
+    requires one_each { length sorts.now ≡ length bound.now }
     requires few_conditions { length shapes.now < 2 ^ 32 }
     requires few_variables { length bound.now < 2 ^ 32 }
-    ensures plan { IfOk result (λ steps. IsPlan sizes arcs.now shapes.now bound.now steps) }
+    ensures plan { IfOk result (λ steps. IsPlan sizes sorts.now shapes.now bound.now steps) }
     ensures uses_all { IfOk result (λ steps. (i : ℕ) → i < length shapes.now → Uses steps i) }
     ensures none_twice { IfOk result NoneTwice }
     ensures in_range { IfOk result (AreStepsOver (length shapes.now) (length bound.now)) }
@@ -286,7 +291,7 @@ pub(crate) fn make_plan(
     let mut bound = bound.to_vec(alloc)?;
     let mut steps = Vec::new(alloc);
     let mut from = 0;
-    while let Some(step) = advance(shapes, arcs, sizes, &mut used, &mut bound, &mut from) {
+    while let Some(step) = advance(shapes, sorts, sizes, &mut used, &mut bound, &mut from) {
         steps.push(step)?;
     }
     Ok(StepList { steps })
@@ -312,11 +317,11 @@ pub fn plan(
         (length chain.now.variables)) }
 {
     let shapes = shapes_of_chain(alloc, counts, chain)?;
-    let arcs = arcs_of_variables(alloc, chain.variables())?;
+    let sorts = sorts_of_variables(alloc, chain.variables())?;
     let steps = make_plan(
         alloc,
         shapes.as_slice(),
-        arcs.as_slice(),
+        sorts.as_slice(),
         counts.sizes,
         bound,
     )?;
@@ -325,6 +330,6 @@ pub fn plan(
 
 /// Where it begins decides a plan.
 pub fn a_plan_is_the_only_one()
-    ensures { (sizes : PlainSizes) (arcs : List Bool) (shapes : List PlainShape)
-        (bound : List Bool) → IsTheOnlyPlan sizes arcs shapes bound }
+    ensures { (sizes : PlainSizes) (sorts : List Sort) (shapes : List PlainShape)
+        (bound : List Bool) → IsTheOnlyPlan sizes sorts shapes bound }
 {}

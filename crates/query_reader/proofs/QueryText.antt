@@ -68,6 +68,9 @@ tells q (check.ArcAsNode p) settled h = record { check = h.0; at = h.1; least = 
 tells q (check.NotLabel p) settled h = record { check = h.0; at = h.1; least = h.2; is = h.3 }
 tells q (check.Reserved p) settled h = record { check = h.0; at = h.1; least = h.2; is = h.3 }
 tells q (check.TooManyVariables p) settled h = record { check = h.0; at = h.1; least = h.2; is = h.3 }
+tells q (check.LocalToNone p) settled h = record { check = h.0; at = h.1; least = h.2; is = h.3 }
+tells q (check.NotYetKnown p) settled h = record { check = h.0; at = h.1; least = h.2; is = h.3 }
+tells q (check.BadPattern p) settled h = record { check = h.0; at = h.1; least = h.2; is = h.3 }
 tells q check.NoMemory settled h = absurd settled
 
 past_way : (limit : ℕ) (bytes : List ℕ) (b : Bool) (at : ℕ) (tokens rest : List Token) → IsTextOrFault limit bytes (Ok tokens) → FirstPast IsReal query_within query_spelled tokens rest

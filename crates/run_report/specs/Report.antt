@@ -80,6 +80,9 @@ site_refusal_name number =
     else if number == 102 then codes "UnknownFunction"
     else if number == 103 then codes "RootHasArguments"
     else if number == 111 then codes "Expected"
+    else if number == 151 then codes "LocalToNone"
+    else if number == 152 then codes "NotYetKnown"
+    else if number == 153 then codes "BadPattern"
     else []
 
 -- the name of a refusal

@@ -76,6 +76,9 @@ fn site_refusal_name(number: u32) -> &'static [u8]
         102 => b"UnknownFunction",
         103 => b"RootHasArguments",
         111 => b"Expected",
+        151 => b"LocalToNone",
+        152 => b"NotYetKnown",
+        153 => b"BadPattern",
         _ => b"",
     }
 }

@@ -158,6 +158,9 @@ query_settled (NotChecked (check.ArcAsNode at)) told h = tt
 query_settled (NotChecked (check.NotLabel at)) told h = tt
 query_settled (NotChecked (check.Reserved at)) told h = tt
 query_settled (NotChecked (check.TooManyVariables at)) told h = tt
+query_settled (NotChecked (check.LocalToNone at)) told h = tt
+query_settled (NotChecked (check.NotYetKnown at)) told h = tt
+query_settled (NotChecked (check.BadPattern at)) told h = tt
 query_settled (NotChecked check.NoMemory) told h = absurd cc
 
 module _ (path bytes : List ℕ) where

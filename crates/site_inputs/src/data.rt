@@ -11,19 +11,19 @@ use crate::fault::{Fault, refused};
 use crate::inputs::{gather, load_graph};
 use crate::site::load_query;
 use command_spec::DataFiles;
-use composed_data::composed_data;
 use edge_io::Files;
+use made_data::first_data;
+use query_reader::OrderedChecked;
 use run_report::Place;
-use sd_graph::{Graph, GraphBuilder, GraphRefusal, PROGRAM_LIMITS};
+use sd_graph::{Graph, GraphBuilder, GraphRefusal};
 use sd_value::Str;
 use std::alloc::Global;
-use struql_check::Checked;
 
 /// The data of a command, and the first query whose site they are, if there is one.
 #[derive(Drop)]
 pub struct DataInputs {
     pub graph: Graph,
-    pub first: Option<Checked>,
+    pub first: Option<OrderedChecked>,
 }
 
 // The first query's site over the gathered data, as data.
@@ -31,11 +31,11 @@ fn take_site(
     alloc: Global,
     path: &Str,
     gathered: GraphBuilder,
-    first: Checked,
+    first: OrderedChecked,
 ) -> Result<DataInputs, Fault>
     ensures { SiteTaken path.now gathered.graph first result }
 {
-    match composed_data(alloc, gathered, &first, PROGRAM_LIMITS) {
+    match first_data(alloc, gathered, &first) {
         Ok(graph) => Ok(DataInputs {
             graph,
             first: Some(first),

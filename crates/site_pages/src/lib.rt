@@ -5,23 +5,24 @@
 ghost use Rattle.std.specs.Prelude.{◌≡◌, IfOk, false, map};
 ghost use Rattle.tmpl.specs.Reading.{file_of};
 ghost use Rattle.query_blocks.specs.Blocks.{AreCheckedBlocks, scope_of};
+ghost use Rattle.made_data.specs.Making.{making_of};
 ghost use Rattle.site_pages.specs.Rules.{TextRules, the_rules};
 ghost use Rattle.site_pages.specs.Texts.{Current, current_site, current_templates, data_texts};
 
 mod live;
 mod made;
 
-use data_texts::{RunText, read_run_text, spared};
+use data_texts::{RunText, read_run_text, remade, spared};
 use edit_spec::Edit;
 pub use made::PageSource;
 use made::{MadePages, pages_after, pages_over};
+use made_data::{Made, Making};
 use page_spec::Outcome;
 use query_blocks::QueryBlocks;
 use sd_graph::{Graph, GraphBuilder, PROGRAM_LIMITS};
 use sd_value::{NoMemory, Str, Term};
 use site_view::Pages;
 use std::alloc::Global;
-use struql_check::Checked;
 use tmpl::Templates;
 use versions::{Changed, Same, Versions};
 
@@ -30,8 +31,10 @@ use versions::{Changed, Same, Versions};
 pub struct SitePages<'q> {
     pages: MadePages<'q>,
     source: PageSource,
-    // Of whose site the data are the graph.
-    first: &'q Option<Checked>,
+    // What makes the data of what a text states.
+    making: &'q Making,
+    // What is stated, where edits are of it and not of the data.
+    stated: Option<Graph>,
     scopes: &'q QueryBlocks,
     templates: &'q Templates,
 }
@@ -52,31 +55,34 @@ impl<'q> SitePages<'q> {
     ghost use Rattle.tmpl.specs.Reading.{file_of};
     ghost use Rattle.query_blocks.specs.Blocks.{AreCheckedBlocks, scope_of};
 
-    /// The pages over these data. With a first query, texts make the graph of its site.
+    /// The pages over these data. Texts make what this makes of what they state.
     pub fn of(
         alloc: Global,
-        graph: Graph,
-        first: &'q Option<Checked>,
+        made: Made,
+        making: &'q Making,
         scopes: &'q QueryBlocks,
         templates: &'q Templates,
         source: PageSource,
     ) -> Result<SitePages<'q>, NoMemory>
         requires { AreCheckedBlocks scopes.now.version scopes.now.blocks.items }
         ensures state { IfOk result (λ pages. ⟦<SitePages<'q> as Versions>⟧.state pages ≡ record {
-          first = first.now;
+          making = making_of making.now;
+          stated = made.stated;
           pages = record {
-            graph = graph;
+            graph = made.graph;
             scope = scope_of scopes.now;
             templates = file_of templates.now;
           };
         }) }
         ensures own { IfOk result (λ pages. ⟦<SitePages<'q> as Versions>⟧.Own pages) }
     {
+        let Made { graph, stated } = made;
         let pages = pages_over(alloc, graph, scopes, templates, source)?;
         Ok(SitePages {
             pages,
             source,
-            first,
+            making,
+            stated,
             scopes,
             templates,
         })
@@ -105,13 +111,14 @@ impl<'q> SitePages<'q> {
     ghost use Rattle.std.specs.Prelude.{◌≡◌, ◌↔◌, false, IfOk, IfSome, Some};
     ghost use Rattle.edit_spec.specs.Edited.{IsOfData};
     ghost use Rattle.data_texts.specs.Edits.{edited, is_taken};
+    ghost use Rattle.made_data.specs.Making.{making_of};
     ghost use Rattle.site_pages.specs.Rules.{the_rules};
     ghost use Rattle.versions.specs.Changes.{TellsEach};
     ghost use Rattle.site_pages.specs.Texts.{edit_stays, over_data};
 
     // Takes other data. The new ones are indexed before the old ones go, and so is the site made whole, where pages come
     // from it.
-    fn take_data(&mut self, alloc: Global, graph: Graph, kept: &[Term]) -> Result<Changed, NoMemory>
+    fn take_data(&mut self, alloc: Global, made: Made, kept: &[Term]) -> Result<Changed, NoMemory>
         requires own { ⟦<SitePages<'q> as Versions>⟧.Own self.old }
         ensures own { ⟦<SitePages<'q> as Versions>⟧.Own self.new }
         ensures state { IfOk result (λ c. ⟦<SitePages<'q> as Versions>⟧.state self.new
@@ -120,8 +127,27 @@ impl<'q> SitePages<'q> {
         ensures flags { IfOk result (TellsEach (λ t. false) kept.now) }
     {
         let flags = none_stays(alloc, kept)?;
+        let Made { graph, stated } = made;
         self.pages = pages_over(alloc, graph, self.scopes, self.templates, self.source)?;
+        self.stated = stated;
         Ok(Changed::Taken(Same { flags }))
+    }
+
+    // Makes an edit of what is stated, where there is room, and the data anew.
+    fn take_remade(
+        &mut self,
+        alloc: Global,
+        edit: &Edit,
+        kept: &[Term],
+    ) -> Result<Changed, NoMemory> {
+        let made = match &self.stated {
+            Some(stated) => remade(alloc, stated, edit, &self.making.orders)?,
+            None => None,
+        };
+        match made {
+            Some(made) => self.take_data(alloc, made, kept),
+            None => Ok(Changed::Refused),
+        }
     }
 
     // Makes an edit, where there is room for the graph after it.
@@ -175,7 +201,13 @@ impl<'q> SitePages<'q> {
             (⟦<SitePages<'q> as Versions>⟧.state self.old) edit.now) kept.now) }
     {
         match edit {
-            Some(edit) => self.take_edit(alloc, edit, kept),
+            Some(edit) => {
+                if self.making.keeps_stated() {
+                    self.take_remade(alloc, edit, kept)
+                } else {
+                    self.take_edit(alloc, edit, kept)
+                }
+            }
             None => Ok(Changed::Refused),
         }
     }
@@ -187,7 +219,8 @@ impl<'q> Versions for SitePages<'q> {
     ghost Cache = { Unit {0} };
 
     ghost state = { λ s. record {
-      first = s.first.now;
+      making = making_of s.making.now;
+      stated = s.stated;
       pages = ⟦<MadePages<'q> as Pages>⟧.fixed s.pages;
     } };
 
@@ -222,8 +255,8 @@ impl<'q> Versions for SitePages<'q> {
 
     /// A text that states data replaces them all. Any other may be an edit of them.
     fn change(&mut self, alloc: Global, text: &Str, kept: &[Term]) -> Result<Changed, NoMemory> {
-        match read_run_text(alloc, text, self.first)? {
-            RunText::Data(graph) => self.take_data(alloc, graph, kept),
+        match read_run_text(alloc, text, self.making)? {
+            RunText::Data(made) => self.take_data(alloc, made, kept),
             RunText::Other(edit) => self.take_text_edit(alloc, &edit, kept),
         }
     }

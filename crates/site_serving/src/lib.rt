@@ -11,6 +11,7 @@ ghost use Rattle.site_pages.specs.Rules.{the_rules};
 ghost use Rattle.site_serving.specs.Served.{ServesSite, ServesSiteBy, ServesSiteInSteps, StepsBy};
 
 use command_spec::RunLimits;
+use made_data::Made;
 use query_blocks::{QueryBlocks, root_of};
 use query_scoping::scopes;
 use sd_value::{NoMemory, Str};
@@ -71,8 +72,11 @@ fn serve_inputs<W: Wire>(
     };
     let pages = SitePages::of(
         alloc,
-        inputs.graph,
-        &inputs.first,
+        Made {
+            graph: inputs.graph,
+            stated: inputs.stated,
+        },
+        &inputs.making,
         &scopes,
         &inputs.templates,
         source,

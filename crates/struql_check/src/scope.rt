@@ -1,4 +1,4 @@
-//! The variables of the blocks round a place, and whether they are arc variables.
+//! The variables of the blocks round a place, and their sorts.
 
 ghost use Rattle.std.specs.Prelude.{◌≡◌, ◌||◌, ◌∷◌, [], ℕ, List, IfOk};
 ghost use Rattle.std.specs.BTreeMap as tree;
@@ -6,6 +6,7 @@ ghost use Rattle.sd_value.specs.Order.{bytes_cmp};
 ghost use Rattle.struql_check.specs.Scope.{sort_of, is_arc_role};
 
 use crate::mentions::{Role, VariableUse};
+use query_spec::Sort;
 use sd_value::{NoMemory, Str};
 use std::alloc::Global;
 use std::collections::BTreeMap;
@@ -15,8 +16,8 @@ use std::marker::Model;
 #[derive(Drop)]
 pub(crate) struct Level {
     mentions: Vec<VariableUse>,
-    /// Each of them, and whether it is between arrows.
-    variables: BTreeMap<Str, bool>,
+    /// Each of them, and its sort.
+    variables: BTreeMap<Str, Sort>,
 }
 
 impl Model for Level {
@@ -36,29 +37,88 @@ impl Model for Level {
         → tree.get bytes_cmp l.variables x ≡ sort_of (l.mentions.items ∷ []) x };
 }
 
-fn is_arc_role(role: Role) -> bool
-    ensures { result ≡ is_arc_role role }
-{
-    matches!(role, Role::Arc)
+/// What the mentions so far say of a variable.
+#[derive(Clone, Copy)]
+struct Said {
+    arc: bool,
+    found: bool,
+    given: bool,
 }
 
-/// Whether a variable is between arrows, given whether it did before.
-fn or_arc(before: bool, role: Role) -> bool
-    ensures { result ≡ (before || is_arc_role role) }
-{
-    before || is_arc_role(role)
+fn said_of(before: Option<Said>, mention: &VariableUse, within: bool) -> Said {
+    let (arc, found, given) = match before {
+        Some(said) => (said.arc, said.found, said.given),
+        None => (false, false, false),
+    };
+    let outright = !mention.site.negated && (within || mention.site.none.is_none());
+    match mention.role {
+        Role::Arc => Said {
+            arc: true,
+            found,
+            given,
+        },
+        Role::End => Said {
+            arc,
+            found: found || outright,
+            given,
+        },
+        Role::Given => Said {
+            arc,
+            found,
+            given: given || outright,
+        },
+        Role::Label | Role::Other => Said { arc, found, given },
+    }
 }
 
-/// Each variable, and whether it is between arrows.
-fn sorts_of(alloc: Global, mentions: &[VariableUse]) -> Result<BTreeMap<Str, bool>, NoMemory>
+fn sort_said(said: Said) -> Sort {
+    if said.arc {
+        Sort::Arc
+    } else if said.given && !said.found {
+        Sort::Computed
+    } else {
+        Sort::Node
+    }
+}
+
+/// The sort of a local variable of the NONE that begins there.
+pub(crate) fn sort_within(mentions: &[VariableUse], none: Option<u64>, name: &Str) -> Option<Sort> {
+    let mut said = None;
+    for mention in mentions {
+        if mention.site.none == none && mention.name == *name {
+            said = Some(said_of(said, mention, true));
+        }
+    }
+    match said {
+        Some(said) => Some(sort_said(said)),
+        None => None,
+    }
+}
+
+/// The sort of a variable, by these mentions of a block, local ones aside.
+fn sort_by(mentions: &[VariableUse], name: &Str) -> Option<Sort> {
+    let mut said = None;
+    for mention in mentions {
+        if !mention.site.local && mention.name == *name {
+            said = Some(said_of(said, mention, false));
+        }
+    }
+    match said {
+        Some(said) => Some(sort_said(said)),
+        None => None,
+    }
+}
+
+/// Each variable, and its sort.
+fn sorts_of(alloc: Global, mentions: &[VariableUse]) -> Result<BTreeMap<Str, Sort>, NoMemory>
     ensures { IfOk result (λ sorts. (x : List ℕ)
         → tree.get bytes_cmp sorts x ≡ sort_of (mentions.now ∷ []) x) }
 {
     let mut sorts = BTreeMap::new(alloc);
     for mention in mentions {
-        let before = sorts.get(&mention.name).copied().unwrap_or(false);
-        let name = mention.name.copy(alloc)?;
-        sorts.insert(name, or_arc(before, mention.role))?;
+        if let Some(sort) = sort_by(mentions, &mention.name) {
+            sorts.insert(mention.name.copy(alloc)?, sort)?;
+        }
     }
     Ok(sorts)
 }
@@ -82,22 +142,21 @@ impl Level {
         self.mentions.as_slice()
     }
 
-    /// Whether the variable is an arc variable, if the block mentions it.
-    fn sort(&self, name: &Str) -> Option<bool>
+    /// The sort of the variable, if the block mentions it.
+    fn sort(&self, name: &Str) -> Option<Sort>
         ensures { result ≡ sort_of (self.now ∷ []) name.now }
     {
         self.variables.get(name).copied()
     }
 }
 
-/// Whether the variable is an arc variable, if one of the blocks mentions it: the outermost that
-/// does decides.
-pub(crate) fn sort_of(levels: &[Level], name: &Str) -> Option<bool>
+/// The sort of the variable, if one of the blocks mentions it: the outermost that does decides.
+pub(crate) fn sort_of(levels: &[Level], name: &Str) -> Option<Sort>
     ensures { result ≡ sort_of levels.now name.now }
 {
     for level in levels {
-        if let Some(is_arc) = level.sort(name) {
-            return Some(is_arc);
+        if let Some(sort) = level.sort(name) {
+            return Some(sort);
         }
     }
     None

@@ -7,6 +7,8 @@ mod checks;
 #[cfg(test)]
 mod composed;
 #[cfg(test)]
+mod calls;
+#[cfg(test)]
 mod connections;
 #[cfg(test)]
 mod devices;
@@ -27,6 +29,9 @@ mod lints;
 #[cfg(test)]
 mod logs;
 #[cfg(test)]
+mod nones;
+#[cfg(test)]
+mod orders;
 mod pages;
 #[cfg(test)]
 mod refusing;

@@ -68,6 +68,9 @@ module _ (limit : ℕ) (bytes : List ℕ) (tokens : List Token) (query : written
   not_reported other spells (check.NotLabel p) h = absurd (not_faulty other spells h.0 h.1 h.2.is)
   not_reported other spells (check.Reserved p) h = absurd (not_faulty other spells h.0 h.1 h.2.is)
   not_reported other spells (check.TooManyVariables p) h = absurd (not_faulty other spells h.0 h.1 h.2.is)
+  not_reported other spells (check.LocalToNone p) h = absurd (not_faulty other spells h.0 h.1 h.2.is)
+  not_reported other spells (check.NotYetKnown p) h = absurd (not_faulty other spells h.0 h.1 h.2.is)
+  not_reported other spells (check.BadPattern p) h = absurd (not_faulty other spells h.0 h.1 h.2.is)
   not_reported other spells check.NoMemory h = tt
 
   pub never_refused : (refusal : QueryRefusal) → IsRefused limit bytes refusal → IsOutOfMemory refusal

@@ -36,7 +36,7 @@ pub fn made_query(alloc: Global) -> Result<Checked, NoMemory>
     ensures { IfOk result (λ query. IsAccepted text_limit query_text query) }
 {
     match read_query(alloc, QUERY, TEXT_LIMIT) {
-        Ok(query) => Ok(query),
+        Ok(query) => Ok(query.checked),
         Err(QueryRefusal::NotSpelled(refusal)) => {
             if refusal.is_out_of_memory() {
                 return Err(NoMemory);

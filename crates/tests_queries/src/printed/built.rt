@@ -51,6 +51,7 @@ fn some_link(alloc: Global) -> Result<Link, NoMemory> {
 fn some_block(alloc: Global) -> Result<Block, NoMemory> {
     Ok(Block {
         conditions: vec![in alloc; some_path(alloc)?]?,
+        nones: Vec::new(alloc),
         creates: Vec::new(alloc),
         links: vec![in alloc; some_link(alloc)?, some_link(alloc)?]?,
         collects: Vec::new(alloc),

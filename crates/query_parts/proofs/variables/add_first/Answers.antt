@@ -4,7 +4,7 @@ use Rattle.std.specs.List.{list_any}
 use Rattle.query_spec.specs.Mentions.{same_name}
 use Rattle.struql_ast.specs.Written.{Name}
 use Rattle.query_spec.proofs.MentionLaws.{any_first, first_new, first_known}
-use Rattle.query_scoping.proofs.variables.add_first.Goals as goal
+use Rattle.query_parts.proofs.variables.add_first.Goals as goal
 
 pub returns : goal.returns
 returns c = λ xs e.
