@@ -27,8 +27,8 @@ mod weights;
 
 pub use laws::{AnySite, comparisons_agree, one_answer};
 pub use pages::{
-    cycle_of_pages, labels_of_links, limited_and_counted, missing_keys, worked_addresses,
-    worked_texts,
+    cycle_of_pages, labels_of_links, limited_and_counted, missing_keys, placed_addresses,
+    worked_addresses, worked_texts,
 };
 pub use weights::year_page_weighs_ten;
 

@@ -118,6 +118,10 @@ pub fn told_of_templates(refusal: &TmplRefusal) -> Result<NumberedFault, NoMemor
             number: 87,
             at: *at,
         }),
+        TmplRefusal::AddressTaken(at) => Ok(NumberedFault {
+            number: 88,
+            at: *at,
+        }),
         TmplRefusal::NoMemory => Err(NoMemory),
     }
 }

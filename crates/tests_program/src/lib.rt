@@ -3,6 +3,8 @@
 #![tactic(auto)]
 
 #[cfg(test)]
+mod addresses;
+#[cfg(test)]
 mod checks;
 #[cfg(test)]
 mod composed;
@@ -27,6 +29,7 @@ mod lints;
 #[cfg(test)]
 mod logs;
 #[cfg(test)]
+mod orders;
 mod pages;
 #[cfg(test)]
 mod refusing;
