@@ -12,6 +12,9 @@ import tempfile
 
 from measure import STRUDEL, TOP, least, written
 
+if "--help" in sys.argv[1:]:
+    sys.exit(print(__doc__.strip()))
+
 # Ten queries, each beside ten constraints: comparisons, negations, lists, tests, paths and arcs.
 MADE = [
     ('INPUT D { CREATE Home() } { WHERE Person(x), x -> "age" -> a, a < 18 CREATE Child(x) LINK Child(x) -> "age" -> a, Home() -> "child" -> Child(x) } '

@@ -14,6 +14,10 @@ import tempfile
 
 from measure import STRUDEL, TOP
 
+if sys.argv[1:]:
+    print(__doc__.strip())
+    sys.exit(0 if sys.argv[1:] == ["--help"] else 2)
+
 # A comment, a character or a string, so that a quote within one begins no other.
 STRING = re.compile(r"""//[^\n]*|'(?:[^'\\]|\\.[^']*)'|"((?:[^"\\]|\\.)*)\"""", re.DOTALL)
 ESCAPE = re.compile(r'\\(?:x([0-9a-fA-F]{2})|\n\s*|(.))', re.DOTALL)
