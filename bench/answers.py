@@ -12,8 +12,9 @@ import tempfile
 
 from measure import STRUDEL, TOP, least, written
 
-if "--help" in sys.argv[1:]:
-    sys.exit(print(__doc__.strip()))
+if {it for it in sys.argv[1:] if it.startswith("-")} - {"-v"}:
+    print(__doc__.strip())
+    sys.exit(0 if sys.argv[1:] == ["--help"] else 2)
 
 # Ten queries, each beside ten constraints: comparisons, negations, lists, tests, paths and arcs.
 MADE = [
