@@ -60,7 +60,7 @@ fn unescaped(alloc: Global, text: &[u8]) -> Result<Vec<u8>, NoMemory>
         (λ v. (s : List ℕ) → IsBytes s → spec.in_address s ≡ text.now → v.items ≡ s) }
     ensures bytes { IfOk result (λ v. IsBytes v.items) }
 {
-    let mut bytes = Vec::new(alloc);
+    let mut bytes = Vec::with_capacity(alloc, text.len())?;
     let mut at = 0;
     while at < text.len() {
         if text[at] == b'~' && text.len() - at > 2 {

@@ -10,7 +10,7 @@ ghost use Rattle.address.specs.Targets.{root_name, IsOnly, IsSame};
 
 use crate::argument::argument;
 use crate::target::path_of;
-use crate::written::address;
+use crate::written::push_address;
 use sd_value::{Args, Datum, NoMemory, Str, Term};
 use std::alloc::Global;
 
@@ -42,8 +42,9 @@ fn named(alloc: Global, path: &[u8]) -> Result<Option<Term>, NoMemory>
     match candidate(alloc, path)? {
         None => Ok(None),
         Some(term) => {
-            let mut text = Vec::new(alloc);
-            address(alloc, &term, &mut text)?;
+            // (an address that is the path needs no more room)
+            let mut text = Vec::with_capacity(alloc, path.len())?;
+            push_address(alloc, &mut text, &term)?;
             if is_name(term.function.bytes()) && text.as_slice() == path {
                 Ok(Some(term))
             } else {

@@ -11,8 +11,9 @@ use std::alloc::Global;
 pub fn path_of(alloc: Global, target: &[u8]) -> Result<Vec<u8>, NoMemory>
     ensures { IfOk result (λ p. p.items ≡ spec.path target.now) }
 {
-    let mut path = Vec::new(alloc);
-    percent_decode(before_query(without_host(target))).append_to(&mut path)?;
+    let text = before_query(without_host(target));
+    let mut path = Vec::with_capacity(alloc, text.len())?;
+    percent_decode(text).append_to(&mut path)?;
     Ok(path)
 }
 

@@ -1,6 +1,7 @@
 // How values are written: as text, and as an address.
 ghost use Rattle.std.specs.Prelude.{◌≡◌, ℕ, ◌<◌, List, ◌++◌, OnOk, IfOk, codes, [], ◌∷◌, Option, if◌then◌else◌, is_ok};
 ghost use Rattle.page_spec.specs.Show as spec;
+ghost use Rattle.sd_value.specs.declared.Datum.TheVariants.{Int};
 
 use sd_value::{Datum, NoMemory, Str, Term, Value};
 use std::alloc::Global;
@@ -53,7 +54,8 @@ fn push_datum(out: &mut Vec<u8>, datum: &Datum) -> Result<(), NoMemory>
     }
 }
 
-fn push_address(alloc: Global, out: &mut Vec<u8>, term: &Term) -> Result<(), NoMemory>
+/// The same for the address of a term.
+pub(crate) fn push_address(alloc: Global, out: &mut Vec<u8>, term: &Term) -> Result<(), NoMemory>
     ensures { OnOk result (out.new.items ≡ out.old.items ++ spec.address term.now) }
 {
     out.push(b'/')?;
@@ -74,10 +76,23 @@ fn push_arguments(alloc: Global, out: &mut Vec<u8>, args: &[Datum]) -> Result<()
 fn push_argument(alloc: Global, out: &mut Vec<u8>, datum: &Datum) -> Result<(), NoMemory>
     ensures { OnOk result (out.new.items ≡ out.old.items ++ 47 ∷ spec.argument datum.now) }
 {
-    let mut text = Vec::new(alloc);
-    push_datum(&mut text, datum)?;
     out.push(b'/')?;
     out.push(kind_letter(datum))?;
+    match datum {
+        Datum::Int(number) => push_number(alloc, out, *number),
+        Datum::Text(text) => push_in_address(out, text.bytes()),
+        Datum::Url(text) => push_in_address(out, text.bytes()),
+        Datum::File(text) => push_in_address(out, text.bytes()),
+        Datum::Node(text) => push_in_address(out, text.bytes()),
+    }
+}
+
+fn push_number(alloc: Global, out: &mut Vec<u8>, number: i64) -> Result<(), NoMemory>
+    ensures { OnOk result (out.new.items
+        ≡ out.old.items ++ spec.in_address (spec.show_datum (Int number))) }
+{
+    let mut text = Vec::new(alloc);
+    put_int(number, &mut text)?;
     push_in_address(out, text.as_slice())
 }
 

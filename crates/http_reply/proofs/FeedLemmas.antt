@@ -1,6 +1,7 @@
 -- The steps of a reader of requests.
 use Rattle.std.proofs.Common.{◌≡◌, ℕ, ◌+◌, ◌<◌, ◌≤◌, List, [], ◌∷◌, ◌++◌, length, refl, sym, ap, ◌∙◌, subst, arith, append_assoc, get_or, take, drop, ◌⊎◌, inl, inr, length-append, Bool, false, true, Option, Some, None}
 use Rattle.std.proofs.lemmas.List.{take-append-drop, take_more, append-nil}
+use Rattle.std.proofs.Math.Seq.{take-add}
 use Rattle.std.specs.Prelude.{is_some, vec_capacity}
 use Rattle.httparse.specs.declared.spans.Span.{Span}
 use Rattle.http_reply.specs.declared.buffer.Buffer.{Buffer}
@@ -18,6 +19,13 @@ pub fed_so_far : (rest piece old bytes : List ℕ) (i : ℕ) → i < length piec
 fed_so_far rest piece old bytes i inside before e =
     e ∙ ap (λ x. x ++ get_or piece i 0 ∷ []) before ∙ append_assoc rest (take i piece) (get_or piece i 0 ∷ [])
     ∙ ap (λ x. rest ++ x) (sym (take_more piece i 0 inside))
+
+-- and so are more of the others
+pub fed_front : (rest piece old bytes : List ℕ) (i n : ℕ) → old ≡ rest ++ take i piece → bytes ≡ old ++ take n (drop i piece)
+    → bytes ≡ rest ++ take (i + n) piece
+fed_front rest piece old bytes i n before e =
+    e ∙ ap (λ x. x ++ take n (drop i piece)) before ∙ append_assoc rest (take i piece) (take n (drop i piece))
+    ∙ ap (λ x. rest ++ x) (sym (take-add i n piece))
 
 pub fed_whole : (rest piece bytes : List ℕ) (n : ℕ) → bytes ≡ rest ++ take n piece → bytes ++ drop n piece ≡ rest ++ piece
 fed_whole rest piece bytes n e =

@@ -31,8 +31,8 @@ pub(crate) fn parse_head(bytes: &[u8], started: bool, hosts: &Option<Str>) -> Pa
     requires unstarted { started ≡ false → AllLineEndBytes bytes.now }
     ensures { Parses hosts.now bytes.now result }
 {
-    // A head ends in a line feed, so it is enough to parse at these. A head has at most 65 lines after
-    // the line ends before it, so it is parsed at most 66 times, however it is cut into pieces.
+    // A head ends in a line feed, so it is enough to parse at these (`front_len` passes over some of them). A head has at
+    // most 65 lines after the line ends before it, so it is parsed at most 66 times, however it is cut into pieces.
     if !started || bytes[bytes.len() - 1] != b'\n' {
         return Parsed::Unfinished;
     }

@@ -66,16 +66,20 @@ impl Reading {
         if self.buffer.target.is_some() {
             self.buffer.clear();
         }
-        for (i, byte) in piece.iter().enumerate() {
-            match self.buffer.add(*byte, hosts) {
+        let mut taken = self.buffer.add_front(piece);
+        while taken < piece.len() {
+            match self.buffer.add(piece[taken], hosts) {
                 Parsed::Head(ask, target) => {
                     self.buffer.target = Some(target);
                     return Fed {
-                        taken: i + 1,
+                        taken: taken + 1,
                         ask: Some(ask),
                     };
                 }
-                Parsed::Unfinished if self.buffer.bytes.len() < MAX_HEAD => {}
+                Parsed::Unfinished if self.buffer.bytes.len() < MAX_HEAD => {
+                    taken += 1;
+                    taken += self.buffer.add_front(&piece[taken..]);
+                }
                 Parsed::Unfinished => return self.buffer.refuse(piece.len()),
                 Parsed::Impossible => return self.buffer.refuse(piece.len()),
             }

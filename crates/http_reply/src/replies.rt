@@ -15,6 +15,9 @@ pub const NO_MEMORY_REPLY: [u8; 74] =
 
 const PLAIN: &str = "text/plain; charset=utf-8";
 
+// No lines of a response are longer, so that they are written in one room.
+const HEAD_ROOM: usize = 192;
+
 /// Adds the reply to an ask, whose page has this outcome. An `Err` adds nothing.
 pub fn reply(
     alloc: Global,
@@ -185,7 +188,9 @@ fn head(
         ≡ head_bytes status.now content_type.now allow.now length close) }
 {
     let connection = connection(close);
-    let head = format!(in alloc;
+    let mut head = String::with_capacity(alloc, HEAD_ROOM)?;
+    write!(
+        head,
         "HTTP/1.1 {status}\r\nContent-Type: {content_type}\r\n{allow}Content-Length: {length}\r\nConnection: {connection}\r\n\r\n"
     )?;
     Ok(head)

@@ -1,5 +1,5 @@
 // One connection: how it is read, sent to and let go. None of its calls waits.
-ghost use Rattle.std.specs.Prelude.{◌≡◌, ◌≤◌, length, IfErr};
+ghost use Rattle.std.specs.Prelude.{◌≡◌, ◌≤◌, ◌<◌, length, IfErr};
 
 use crate::pace::Pace;
 use crate::piece::Piece;
@@ -194,10 +194,8 @@ impl<S: Read + Write + OpenStream + AsRawFd + Drop> Peer<S> {
 
     // What comes next of its input: the bytes up to the end of a head, so that each turn makes one reply at most.
     fn feed(&mut self, alloc: Global, now: u64, buffer: &mut [u8]) -> Option<News> {
-        if self.input.is_empty()
-            && let Err(news) = self.fill(now, buffer)
-        {
-            return news;
+        if self.input.is_empty() {
+            return self.fill(alloc, now, buffer);
         }
         let (head, _) = next_head(self.input.rest());
         if head.is_empty() {
@@ -213,31 +211,42 @@ impl<S: Read + Write + OpenStream + AsRawFd + Drop> Peer<S> {
         }
     }
 
-    // Reads what has come, where all that came before was given. An error is what comes in place of bytes.
-    fn fill(&mut self, now: u64, buffer: &mut [u8]) -> Result<(), Option<News>> {
+    // Reads what has come, where all that came before was given.
+    fn fill(&mut self, alloc: Global, now: u64, buffer: &mut [u8]) -> Option<News> {
         if self.is_dry {
-            return Err(None);
+            return None;
         }
         match self.stream.read(buffer) {
             Ok(0) => {
                 self.phase = Phase::Ended;
-                Err(Some(News::Ended))
+                Some(News::Ended)
             }
             Ok(count) => {
                 self.pace.go_on(now, count);
                 // The end that came with these bytes was reported with them, and not again.
                 self.is_dry = count < buffer.len() && !self.has_hung_up;
-                match self.input.push(&buffer[..count]) {
-                    Ok(()) => Ok(()),
-                    Err(_) => Err(Some(News::Lost)),
-                }
+                Some(self.give_first(alloc, &buffer[..count]))
             }
-            Err(error) if error.kind() == ErrorKind::Interrupted => Err(None),
+            Err(error) if error.kind() == ErrorKind::Interrupted => None,
             Err(error) if error.kind() == ErrorKind::WouldBlock => {
                 self.is_dry = true;
-                Err(None)
+                None
             }
-            Err(_) => Err(Some(News::Lost)),
+            Err(_) => Some(News::Lost),
+        }
+    }
+
+    // Gives these bytes up to the end of a head, and keeps the others. Most often there are none, and no queue is made.
+    fn give_first(&mut self, alloc: Global, bytes: &[u8]) -> News
+        requires { 0 < length bytes.now }
+    {
+        let (head, others) = next_head(bytes);
+        if self.input.push(others).is_err() {
+            return News::Lost;
+        }
+        match Piece::new(alloc, head) {
+            Ok(piece) => News::Bytes(piece),
+            Err(_) => News::Lost,
         }
     }
 

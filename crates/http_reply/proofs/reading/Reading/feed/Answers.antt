@@ -4,20 +4,6 @@ use Rattle.http_reply.proofs.reading.Reading.feed.Goals.{then-is_some, else-is_s
 use Rattle.http_reply.proofs.reading.Reading.feed.Goals as goal
 use Rattle.http_reply.specs.declared.reading.Reading.TheInside.{Inside}
 
-pub loop-i-init : goal.loop-i-init
-loop-i-init c =
-    let Family : Inside → Type 0 = λ s. Starts s.buffer c.args.self.now in
-    elim c.if-is_some.branch [
-      | then-is_some w ↦
-          let cleared = w.clear.ensures in
-          subst Family (sym w.self-inside-is) (starts_cleared w.clear.new.self c.args.self.now c.self.inside.buffer.bytes.items c.self.inside.buffer.target
-          (omega (arith, c.self.invariant.0, cleared.room)) cleared.bytes cleared.started cleared.target
-          (sym c.is_some.ensures ∙ w.if-is_some.true) c.self.view_is)
-      | else-is_some w ↦
-          subst Family (sym w.self-inside-is) (starts_kept c.self.inside.buffer c.args.self.now c.self.invariant.0
-          (sym c.is_some.ensures ∙ w.if-is_some.false) c.self.view_is c.self.invariant.1)
-    ]
-
 pub invariant_of-self-in-Unfinished-2 : goal.invariant_of-self-in-Unfinished-2
 invariant_of-self-in-Unfinished-2 c =
     let cleared = c.refuse.ensures in
@@ -26,7 +12,7 @@ invariant_of-self-in-Unfinished-2 c =
 pub returns-in-Unfinished-2-clause-fed : goal.returns-in-Unfinished-2-clause-fed
 returns-in-Unfinished-2-clause-fed c =
     let cleared = c.refuse.ensures in
-    refused c.args.hosts.now c.args.self.now.rest c.args.piece.now _ _ c.loop-i.i _ _ c.loop-i-test.true c.loop-i.invariant.3 c.add.ensures.bytes
+    refused c.args.hosts.now c.args.self.now.rest c.args.piece.now _ _ c.loop-taken.taken _ _ c.loop-taken-test.true c.loop-taken.invariant.4 c.add.ensures.bytes
     c.in-Unfinished-2.ensures.parsed (inl (omega arith)) cleared.fed (held_cleared _ _ cleared.bytes cleared.target)
 
 pub invariant_of-self-in-Impossible : goal.invariant_of-self-in-Impossible
@@ -37,5 +23,5 @@ invariant_of-self-in-Impossible c =
 pub returns-in-Impossible-clause-fed : goal.returns-in-Impossible-clause-fed
 returns-in-Impossible-clause-fed c =
     let cleared = c.refuse-in-Impossible.ensures in
-    refused c.args.hosts.now c.args.self.now.rest c.args.piece.now _ _ c.loop-i.i _ _ c.loop-i-test.true c.loop-i.invariant.3 c.add.ensures.bytes
+    refused c.args.hosts.now c.args.self.now.rest c.args.piece.now _ _ c.loop-taken.taken _ _ c.loop-taken-test.true c.loop-taken.invariant.4 c.add.ensures.bytes
     c.in-Impossible.ensures.parsed.0 (inr c.in-Impossible.ensures.parsed.1) cleared.fed (held_cleared _ _ cleared.bytes cleared.target)
