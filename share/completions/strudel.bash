@@ -3,14 +3,14 @@
 _strudel() {
   local word=${COMP_WORDS[COMP_CWORD]} before=${COMP_WORDS[COMP_CWORD - 1]} strudel=${COMP_WORDS[0]} usage
   COMPREPLY=()
-  # bash splits words at `=`; a number follows an option.
+  # bash splits words at `=`; a number or an address follows an option.
   [ "$word" != = ] && [ "$before" != = ] || return
   if [ "$COMP_CWORD" -eq 1 ] || { [ "$COMP_CWORD" -eq 2 ] && [ "$before" = help ]; }; then
     mapfile -t COMPREPLY < <(compgen -W "$("$strudel" help 2>/dev/null | awk '/^  [a-z]+ / && !had[$1]++ { print $1 }')" -- "$word")
     return
   fi
   usage=$("$strudel" help "${COMP_WORDS[1]}" 2>/dev/null)
-  if [[ $before = --* ]] && grep -qE -e "^  $before (N|MS) " <<<"$usage"; then return; fi
+  if [[ $before = --* ]] && grep -qE -e "^  $before (N|MS|BASE) " <<<"$usage"; then return; fi
   if [[ $word = -* ]]; then
     mapfile -t COMPREPLY < <(compgen -W "$(grep -o -e '^  --[a-z]*' <<<"$usage")" -- "$word")
     return

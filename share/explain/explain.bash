@@ -232,7 +232,7 @@ operands() {
   while [ $# -gt 0 ]; do
     case $open$1 in
       1--) open= ;;
-      1--over) [ $# -eq 1 ] || shift ;;
+      1--over | 1--base) [ $# -eq 1 ] || shift ;;
       1-?*) ;;
       *) given+=("$1") ;;
     esac

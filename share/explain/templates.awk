@@ -13,8 +13,9 @@ function quoted(words,    i, n, part, list) {
 
 # The settings that the tag may still have, and its end.
 function settings(    list) {
-  if (tag == "SFMT" && mode == "") list = quoted("EMBED LINK COUNT RAW PLAIN LINES URL JSON")
+  if (tag == "SFMT" && mode == "") list = as ? quoted("LINK") : quoted("EMBED LINK COUNT RAW PLAIN LINES URL JSON")
   if (tag == "SFMT" && mode == "LINK") list = list quoted("LABEL")
+  if (tag == "SFMT" && !as && (mode == "" || mode ~ /^L(INK|ABEL)/)) list = list quoted("AS")
   if (keys < (ordered ? 1 : 4)) list = list quoted("KEY")
   if (!ordered && keys < 2 && !turned) list = list quoted("ORDER")
   if (!limited) list = list quoted("LIMIT")
@@ -45,15 +46,28 @@ function can(stage) {
   if (stage == "variable") return "|a name that is no keyword"
   if (stage == "in") return quoted("IN")
   if (stage == "name") return "|a name"
-  if (stage == "named") return (tag == "TEMPLATE" && word == "COLLECTION" ? "|a label" : "") (tag == "FRAGMENT" ? "" : quoted("IN")) quoted(">")
+  if (stage == "named") return (tag == "TEMPLATE" && word == "COLLECTION" && !framed && !as && !placed ? "|a label" : "") heads()
+  if (stage == "ending") return "|an ending, as `bib`"
+  if (stage == "segment") return "|a segment in quotes, as `\"people\"`"
+  if (stage == "path") return "|a path with an ending in quotes, as `\"feed.xml\"`"
   if (stage == "led") return quoted("IN >")
   if (stage == "in or named") return quoted("= IN >")
+  if (stage == "set or named") return quoted("= IN >")
   return quoted(">")
+}
+
+# What a tag may still have behind its name, and its end.
+function heads(    list) {
+  if (tag != "FRAGMENT" && !framed) list = quoted("IN")
+  if (tag == "TEMPLATE" && !placed) list = list quoted("AT")
+  if (tag == "TEMPLATE" && !placed && !as) list = list quoted("FILE")
+  if (tag == "TEMPLATE" && !as && placed != "FILE") list = list quoted("AS")
+  return list quoted(">")
 }
 
 # What can stand in a body, and ends it.
 function within(    list) {
-  list = "|text" quoted("<SFMT <SIF <SFOR <SINCLUDE <SNOTE>")
+  list = "|text" quoted("<SFMT <SIF <SFOR <SINCLUDE <SBASE> <SNOTE>")
   if (sort == "LAYOUT") list = list quoted("<SBODY>")
   if (open[depth] == "SIF") return list quoted("<SELSE> </SIF>")
   if (open[depth] == "SELSE") return list quoted("</SIF>")
@@ -78,7 +92,8 @@ function enter(name) {
   tag = name
   p += length(name) + 1
   mode = ""
-  keys = ordered = turned = limited = parted = 0
+  keys = ordered = turned = limited = parted = as = framed = 0
+  placed = ""
   stage = name == "SIF" ? "test" : name == "SFMT" ? "expression" : name == "SFOR" ? "variable" : "name"
   further = name == "SIF" ? "compared" : "settings"
   where = "tag"
@@ -111,8 +126,16 @@ function setting(name) {
   else if (name == "LIMIT") { limited = 1; stage = "equals"; after = "limit" }
   else if (name == "DELIM") { parted = 1; stage = "equals"; after = "text" }
   else if (name == "LABEL") { mode = "LABEL"; stage = "equals"; after = "text" }
+  else if (name == "AS") { as = 1; stage = "equals"; after = "ending" }
   else if (name == "LINK") { mode = "LINK"; stage = "linked" }
   else { mode = name; stage = "settings" }
+}
+
+# AT, FILE or AS in the tag of a template.
+function place(name) {
+  stage = "equals"
+  if (name == "AS") { as = 1; after = "ending" }
+  else { placed = name; after = name == "AT" ? "segment" : "path" }
 }
 
 # The stage after a token.
@@ -138,10 +161,17 @@ function step(name) {
   else if (stage == "counted") stage = "number"
   else if (stage == "variable") stage = "in"
   else if (stage == "in") stage = "expression"
-  else if (stage == "name") { word = name; stage = tag == "SINCLUDE" || led ? "end" : "named" }
+  else if (stage == "ending" || stage == "segment" || stage == "path") stage = tag == "SFMT" ? "settings" : "named"
+  else if (stage == "name" && tag == "SINCLUDE") stage = "end"
+  else if (stage == "name" && led) { led = 0; framed = 1; stage = "named" }
+  else if (stage == "name") { word = name; stage = "named" }
+  else if (stage == "set or named" && kind == "=") { place(pending); stage = after }
+  else if (stage == "named" && name ~ /^(AT|FILE|AS)$/ && tag == "TEMPLATE") {
+    if (word == "COLLECTION" && !framed && !as && !placed) { pending = name; stage = "set or named" } else place(name)
+  }
   else if (stage == "in or named" && kind == "=") { stage = "name"; led = 1 }
   else if (stage == "named" && name == "IN" && word == "COLLECTION" && tag == "TEMPLATE") stage = "in or named"
-  else if ((stage == "named" || stage == "led" || stage == "in or named") && name == "IN") { stage = "equals"; after = "name"; led = 1 }
+  else if ((stage == "named" || stage == "led" || stage == "in or named" || stage == "set or named") && name == "IN") { stage = "equals"; after = "name"; led = 1 }
   else if (stage == "named") stage = "led"
   else stage = "end"
 }

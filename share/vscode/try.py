@@ -16,7 +16,7 @@ FOLDER = os.path.dirname(os.path.abspath(__file__))
 KEYWORDS = {
     "struql": r"\b(INPUT|OUTPUT|WHERE|CREATE|LINK|COLLECT|NOT)\b",
     "strudel-data": r"^\s*(object|collection)\b",
-    "strudel-templates": r"</?(SFMT|SIF|SELSE|SFOR|SINCLUDE|SBODY|TEMPLATE|LAYOUT|FRAGMENT)\b",
+    "strudel-templates": r"</?(SFMT|SIF|SELSE|SFOR|SINCLUDE|SBODY|SBASE|TEMPLATE|LAYOUT|FRAGMENT)\b",
     "strudel-constraints": r"\b(REACHABLE|EACH|ONLY|NONE|ONE|FROM|LINKS|TO)\b",
 }
 

@@ -5,10 +5,13 @@ ghost use Rattle.std.specs.Fmt.{signed_decimal};
 ghost use Rattle.sd_value.specs.declared.Datum.{Datum};
 ghost use Rattle.page_spec.specs.Show as spec;
 ghost use Rattle.page_spec.specs.Address.{IsBytes, IsDatum};
-ghost use Rattle.address.specs.Targets.{IsSame};
+ghost use Rattle.page_spec.specs.Addresses as addresses;
+ghost use Rattle.page_spec.specs.Addresses.{spells_int};
+ghost use Rattle.address.specs.Targets.{IsSame, IsMarked};
 
 use sd_value::{Datum, NoMemory, Str};
 use std::alloc::Global;
+use token_writer::put_int;
 
 /// The datum that is written so, if one is. For what is no argument it may answer any datum.
 pub fn argument(alloc: Global, text: &[u8]) -> Result<Option<Datum>, NoMemory>
@@ -24,6 +27,57 @@ pub fn argument(alloc: Global, text: &[u8]) -> Result<Option<Datum>, NoMemory>
             Ok(datum)
         }
     }
+}
+
+/// Whether the text is the decimal form of an Int of 64 bits.
+pub(crate) fn spells_int(alloc: Global, text: &[u8]) -> Result<bool, NoMemory>
+    ensures { IfOk result (λ spells. spells ≡ spells_int text.now) }
+{
+    // Most texts begin otherwise, or are longer.
+    let [first, ..] = text else {
+        return Ok(false);
+    };
+    if text.len() > 20 || !(*first == b'-' || first.is_ascii_digit()) {
+        return Ok(false);
+    }
+    match number_of(text) {
+        Some(number) => {
+            let mut form = Vec::new(alloc);
+            put_int(number, &mut form)?;
+            Ok(form.as_slice() == text)
+        }
+        None => Ok(false),
+    }
+}
+
+/// What is behind the mark of a kind in an address with an AT, if one is there.
+fn marked(text: &[u8]) -> Option<(u8, &[u8])>
+    ensures { IsMarked text.now result }
+{
+    match text {
+        [mark, letter, rest @ ..] if *mark == b'~' => match *letter {
+            b't' | b'u' | b'f' | b'n' => Some((*letter, rest)),
+            _ => None,
+        },
+        _ => None,
+    }
+}
+
+/// The datum that is written so in an address with an AT, if one is. For what is no argument it may answer any datum.
+pub fn plain_argument(alloc: Global, text: &[u8]) -> Result<Option<Datum>, NoMemory>
+    ensures is { IfOk result
+        (λ r. (d : Datum) → IsDatum d → addresses.plain_argument d ≡ text.now → IsSame d r) }
+    ensures data { IfOk result (λ r. IfSome r IsDatum) }
+{
+    if let Some((letter, rest)) = marked(text) {
+        let bytes = unescaped(alloc, rest)?;
+        return datum_of(alloc, letter, bytes);
+    }
+    if spells_int(alloc, text)? {
+        return Ok(number_of(text).map(Datum::Int));
+    }
+    let bytes = unescaped(alloc, text)?;
+    datum_of(alloc, b't', bytes)
 }
 
 /// The datum whose kind has the letter and whose text these bytes are, if one is.

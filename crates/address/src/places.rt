@@ -1,12 +1,14 @@
 // The files that pages go to.
 ghost use Rattle.std.specs.Prelude.{◌≡◌, ◌↔◌, ◌++◌, IsTrue, drop, if◌then◌else◌, is_ok};
-ghost use Rattle.page_spec.specs.Show as spec;
+ghost use Rattle.page_spec.specs.Addresses as spec;
+ghost use Rattle.tmpl.specs.Reading.{file_of as templates_of};
 ghost use Rattle.address.specs.Segments.{HasLongSegment, FileEnds};
 
-use crate::written::address;
-use page_spec::NAME_LIMIT;
-use sd_value::{NoMemory, Term};
+use crate::shown::page_address;
+use page_spec::{NAME_LIMIT, PageName};
+use sd_value::NoMemory;
 use std::alloc::{AllocError, Global};
+use tmpl::Templates;
 
 /// Why a page has no file: a name on its way would have more than 255 bytes, or it was out of memory.
 #[derive(Clone, Copy, Debug, PartialEq, Eq)]
@@ -26,16 +28,22 @@ impl From<NoMemory> for FileRefusal {
     }
 }
 
-/// The path of the term's file is put after what `out` has: the address without its first `/`. It is `LongName`
+/// The path of the page's file is put after what `out` has: the address without its first `/`. It is `LongName`
 /// exactly where a segment between slashes has more than 255 bytes. After a refusal `out` is as it was.
-pub fn file_of(alloc: Global, term: &Term, out: &mut Vec<u8>) -> Result<(), FileRefusal>
+pub fn file_of(
+    alloc: Global,
+    templates: &Templates,
+    page: &PageName,
+    out: &mut Vec<u8>,
+) -> Result<(), FileRefusal>
     ensures out { out.new.items
-        ≡ (if is_ok result then out.old.items ++ drop 1 (spec.address term.now)
+        ≡ (if is_ok result
+        then out.old.items ++ drop 1 (spec.page_address (templates_of templates.now) page.now)
         else out.old.items) }
-    ensures ends { FileEnds (drop 1 (spec.address term.now)) result }
+    ensures ends { FileEnds (drop 1 (spec.page_address (templates_of templates.now) page.now)) result }
 {
     let mut text = Vec::new(alloc);
-    address(alloc, term, &mut text)?;
+    page_address(alloc, templates, page, &mut text)?;
     let path = &text[1..];
     if has_long_segment(path) {
         return Err(FileRefusal::LongName);

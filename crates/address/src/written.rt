@@ -1,8 +1,8 @@
-// How values are written: as text, and as an address.
+// Addresses where no templates choose another one.
 ghost use Rattle.std.specs.Prelude.{◌≡◌, ℕ, ◌<◌, List, ◌++◌, OnOk, IfOk, codes, [], ◌∷◌, Option, if◌then◌else◌, is_ok};
 ghost use Rattle.page_spec.specs.Show as spec;
 
-use sd_value::{Datum, NoMemory, Str, Term, Value};
+use sd_value::{Datum, NoMemory, Term};
 use std::alloc::Global;
 use token_writer::put_int;
 
@@ -19,29 +19,7 @@ pub fn address(alloc: Global, term: &Term, out: &mut Vec<u8>) -> Result<(), NoMe
     Ok(())
 }
 
-/// The value as text is put after what `out` has: an Int in decimal, another datum's bytes, a page's address. `out`
-/// is as it was where it is out of memory.
-pub fn show(alloc: Global, value: &Value, out: &mut Vec<u8>) -> Result<(), NoMemory>
-    ensures { out.new.items
-        ≡ (if is_ok result then out.old.items ++ spec.show value.now else out.old.items) }
-{
-    let mut text = Vec::new(alloc);
-    push_shown(alloc, value, &mut text)?;
-    out.extend_from_slice(text.as_slice())?;
-    Ok(())
-}
-
-/// The same with no text of its own between: `out` may have a part of the value where it is out of memory.
-pub fn push_shown(alloc: Global, value: &Value, out: &mut Vec<u8>) -> Result<(), NoMemory>
-    ensures { OnOk result (out.new.items ≡ out.old.items ++ spec.show value.now) }
-{
-    match value {
-        Value::Data(datum) => push_datum(out, datum),
-        Value::Page(term) => push_address(alloc, out, term),
-    }
-}
-
-fn push_datum(out: &mut Vec<u8>, datum: &Datum) -> Result<(), NoMemory>
+pub(crate) fn push_datum(out: &mut Vec<u8>, datum: &Datum) -> Result<(), NoMemory>
     ensures { OnOk result (out.new.items ≡ out.old.items ++ spec.show_datum datum.now) }
 {
     match datum {
@@ -62,7 +40,11 @@ fn push_address(alloc: Global, out: &mut Vec<u8>, term: &Term) -> Result<(), NoM
     push(out, b".html")
 }
 
-fn push_arguments(alloc: Global, out: &mut Vec<u8>, args: &[Datum]) -> Result<(), NoMemory>
+pub(crate) fn push_arguments(
+    alloc: Global,
+    out: &mut Vec<u8>,
+    args: &[Datum],
+) -> Result<(), NoMemory>
     ensures { OnOk result (out.new.items ≡ out.old.items ++ spec.arguments args.now) }
 {
     for arg in args {
@@ -93,7 +75,7 @@ fn kind_letter(datum: &Datum) -> u8
     }
 }
 
-fn push_in_address(out: &mut Vec<u8>, text: &[u8]) -> Result<(), NoMemory>
+pub(crate) fn push_in_address(out: &mut Vec<u8>, text: &[u8]) -> Result<(), NoMemory>
     ensures { OnOk result (out.new.items ≡ out.old.items ++ spec.in_address text.now) }
 {
     for b in text {
@@ -129,7 +111,7 @@ pub fn hex_digit(d: u8) -> u8
     if d < 10 { b'0' + d } else { b'A' - 10 + d }
 }
 
-fn push(out: &mut Vec<u8>, text: &[u8]) -> Result<(), NoMemory>
+pub(crate) fn push(out: &mut Vec<u8>, text: &[u8]) -> Result<(), NoMemory>
     ensures { OnOk result (out.new.items ≡ out.old.items ++ text.now) }
 {
     out.extend_from_slice(text)?;

@@ -1,7 +1,7 @@
 // A search for some rows: at least one for all that have the same values of the variables that are wanted.
 ghost use Rattle.std.specs.Prelude.{◌≡◌, IfOk, IfSome, IsTrue, List, Bool, MatchOption, length};
 ghost use Rattle.sd_value.specs.declared.Value.{Value as AnyValue};
-ghost use Rattle.query_spec.specs.Rows.{arcs_of, row_cmp, IsAnswer};
+ghost use Rattle.query_spec.specs.Rows.{sorts_of, row_cmp, IsAnswer};
 ghost use Rattle.asker.specs.Wanted.{wanted_part, ListsSome};
 ghost use Rattle.condition_tests.specs.Known.{Agrees, KnownInDomains};
 ghost use Rattle.condition_tests.specs.Places.{GoalsInRange};
@@ -11,12 +11,14 @@ ghost use Rattle.candidate_values.specs.Kept.{IsKept};
 ghost use Rattle.bindings.specs.Told.{RowsAreTold, AddsSome, HasPart};
 
 use crate::row::row_of;
-use crate::search::{Choice, are_in_domains, choose, choose_goal, clear, passed, put};
+use crate::search::{
+    Choice, are_in_domains, choose, choose_given, choose_goal, clear, passed, put,
+};
 use crate::witness::witness;
 use candidate_values::{Reaches, Search};
 use condition_tests::{Goal, value_of};
 use planned_goals::Wanted;
-use query_spec::Row;
+use query_spec::{Row, Sort};
 use sd_value::{NoMemory, Value, copy, sort_and_dedup};
 use std::alloc::Global;
 use std::collections::HashSet;
@@ -93,8 +95,8 @@ fn add_witness<S: Store>(
     part: Vec<Value>,
     told: &mut Told,
 ) -> Result<(), NoMemory>
-    requires known { KnownInDomains (S.graph search.now.store.now) search.now.arcs.now current.now }
-    requires as_long { length search.now.arcs.now ≡ length current.now }
+    requires known { KnownInDomains (S.graph search.now.store.now) search.now.sorts.now current.now }
+    requires as_long { length search.now.sorts.now ≡ length current.now }
     requires in_range { GoalsInRange (length current.now) search.now.goals.now }
     requires kept { IsKept (S.graph search.now.store.now) search.now.goals.now kept.old }
     ensures kept { IfOk result
@@ -108,7 +110,7 @@ fn add_witness<S: Store>(
         → ((t : List AnyValue) → Agrees t current.now → wanted_part wanted t ≡ part.items)
         → RowsAreTold wanted told.old
         → AddsSome wanted
-        (Fits (S.graph search.now.store.now) search.now.version search.now.arcs.now
+        (Fits (S.graph search.now.store.now) search.now.version search.now.sorts.now
         search.now.goals.now at current.now) told.old.rows.items told.new.rows.items) }
 {
     if is_told(told, &part) {
@@ -130,7 +132,7 @@ fn choose_wanted<S: Store>(
     at: usize,
     current: &[Option<Value>],
 ) -> Result<Option<Choice>, NoMemory>
-    requires as_long { length search.now.arcs.now ≡ length current.now }
+    requires as_long { length search.now.sorts.now ≡ length current.now }
     requires in_range { GoalsInRange (length current.now) search.now.goals.now }
     requires stopped { IsStopped search.now.goals.now at current.now }
     requires kept { IsKept (S.graph search.now.store.now) search.now.goals.now kept.old }
@@ -139,9 +141,12 @@ fn choose_wanted<S: Store>(
     ensures choice { IfOk result
         (λ r. MatchOption r (IsComplete search.now.goals.now at current.now)
         (λ c. IsChoice
-        (S.graph search.now.store.now) search.now.version search.now.arcs.now search.now.goals.now
+        (S.graph search.now.store.now) search.now.version search.now.sorts.now search.now.goals.now
         at current.now c.slot c.values.items c.next)) }
 {
+    if let Some(choice) = choose_given(alloc, search, at, current)? {
+        return Ok(Some(choice));
+    }
     if at < search.goals.len() {
         if let Some(goal) = wanted.leading_goal(search, at, current) {
             let choice = choose_goal(alloc, search, kept, at, goal, current)?;
@@ -164,8 +169,8 @@ fn some_rows<S: Store>(
     current: &mut [Option<Value>],
     told: &mut Told,
 ) -> Result<(), NoMemory>
-    requires known { KnownInDomains (S.graph search.now.store.now) search.now.arcs.now current.old }
-    requires as_long { length search.now.arcs.now ≡ length current.old }
+    requires known { KnownInDomains (S.graph search.now.store.now) search.now.sorts.now current.old }
+    requires as_long { length search.now.sorts.now ≡ length current.old }
     requires in_range { GoalsInRange (length current.old) search.now.goals.now }
     requires kept { IsKept (S.graph search.now.store.now) search.now.goals.now kept.old }
     requires one_flag_each { length wanted.now.flags.now ≡ length current.old }
@@ -176,7 +181,7 @@ fn some_rows<S: Store>(
     ensures told { IfOk result (λ _. RowsAreTold wanted.now.flags.now told.new) }
     ensures adds { IfOk result
         (λ _. AddsSome wanted.now.flags.now
-        (Fits (S.graph search.now.store.now) search.now.version search.now.arcs.now
+        (Fits (S.graph search.now.store.now) search.now.version search.now.sorts.now
         search.now.goals.now at current.old) told.old.rows.items told.new.rows.items) }
 {
     if let Some(part) = part_of(alloc, wanted.flags, current)? {
@@ -210,13 +215,13 @@ fn some_of_all<S: Store>(
     wanted: &[bool],
     current: &mut [Option<Value>],
 ) -> Result<Vec<Row>, NoMemory>
-    requires known { KnownInDomains (S.graph search.now.store.now) search.now.arcs.now current.old }
-    requires as_long { length search.now.arcs.now ≡ length current.old }
+    requires known { KnownInDomains (S.graph search.now.store.now) search.now.sorts.now current.old }
+    requires as_long { length search.now.sorts.now ≡ length current.old }
     requires in_range { GoalsInRange (length current.old) search.now.goals.now }
     requires one_flag_each { length wanted.now ≡ length current.old }
     ensures { IfOk result
         (λ found. ListsSome wanted.now
-        (Fits (S.graph search.now.store.now) search.now.version search.now.arcs.now
+        (Fits (S.graph search.now.store.now) search.now.version search.now.sorts.now
         search.now.goals.now 0 current.old) found.items) }
 {
     let wanted = Wanted::new(alloc, search.goals, current, wanted)?;
@@ -242,13 +247,13 @@ pub(crate) fn chain_some<S: Store>(
     alloc: Global,
     store: &S,
     chain: &Chain,
-    arcs: &[bool],
+    sorts: &[Sort],
     goals: &[Goal],
     bound: Vec<Option<Value>>,
     wanted: &[bool],
 ) -> Result<Vec<Row>, NoMemory>
     requires as_long { length chain.now.variables ≡ length bound.items }
-    requires arcs { arcs.now ≡ arcs_of chain.now.variables }
+    requires sorts { sorts.now ≡ sorts_of chain.now.variables }
     requires in_range { GoalsInRange (length bound.items) goals.now }
     requires resolved { AreGoalsOf chain.now goals.now }
     requires one_flag_each { length wanted.now ≡ length chain.now.variables }
@@ -257,13 +262,13 @@ pub(crate) fn chain_some<S: Store>(
         found.items) }
 {
     let mut current = bound;
-    if !are_in_domains(store, arcs, current.as_slice()) {
+    if !are_in_domains(store, sorts, current.as_slice()) {
         return Ok(Vec::new(alloc));
     }
     let search = Search {
         store,
         version: chain.version(),
-        arcs,
+        sorts,
         goals,
     };
     let found = some_of_all(alloc, &search, wanted, current.as_mut_slice())?;

@@ -9,7 +9,7 @@ use crate::search::{chain_answers, chain_finds};
 use crate::some_rows::chain_some;
 use asker::Asker;
 use planned_goals::{KeptPlan, goals_of};
-use query_spec::{Bound, Row, arcs_of_variables};
+use query_spec::{Bound, Row, sorts_of_variables};
 use sd_value::{NoMemory, Str, Value};
 use std::alloc::Global;
 use store::Store;
@@ -71,13 +71,13 @@ fn rows_of<S: Store>(
         (IsAnswer (S.graph store.now) chain.now bound.now) rows.items) }
 {
     let planned = goals_of(alloc, store, chain, bound, kept.take())?;
-    let arcs = arcs_of_variables(alloc, chain.variables())?;
+    let sorts = sorts_of_variables(alloc, chain.variables())?;
     let values = bound.to_values(alloc)?;
     let rows = chain_answers(
         alloc,
         store,
         chain,
-        arcs.as_slice(),
+        sorts.as_slice(),
         planned.goals(),
         values,
     )?;
@@ -101,13 +101,13 @@ fn some_rows_of<S: Store>(
         rows.items) }
 {
     let planned = goals_of(alloc, store, chain, bound, kept.take())?;
-    let arcs = arcs_of_variables(alloc, chain.variables())?;
+    let sorts = sorts_of_variables(alloc, chain.variables())?;
     let values = bound.to_values(alloc)?;
     let rows = chain_some(
         alloc,
         store,
         chain,
-        arcs.as_slice(),
+        sorts.as_slice(),
         planned.goals(),
         values,
         wanted,
@@ -128,13 +128,13 @@ fn some_row<S: Store>(
     ensures { IfOk result (λ b. IsTrue b ↔ SomeAnswer (S.graph store.now) chain.now bound.now) }
 {
     let planned = goals_of(alloc, store, chain, bound, kept.take())?;
-    let arcs = arcs_of_variables(alloc, chain.variables())?;
+    let sorts = sorts_of_variables(alloc, chain.variables())?;
     let values = bound.to_values(alloc)?;
     let found = chain_finds(
         alloc,
         store,
         chain,
-        arcs.as_slice(),
+        sorts.as_slice(),
         planned.goals(),
         values,
     )?;

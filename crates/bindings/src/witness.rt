@@ -1,7 +1,7 @@
 // A look for one row, first along the first value that each goal offers.
 ghost use Rattle.std.specs.Prelude.{◌≡◌, ◌<◌, ◌+◌, ◌⊎◌, IfOk, IfSome, IsTrue, MatchOption, Contains, None, Some, length, slice_get};
 ghost use Rattle.sd_value.specs.declared.Value.{Value as AnyValue};
-ghost use Rattle.condition_tests.specs.Known.{IsCandidate, KnownInDomains, is_arc, known_part};
+ghost use Rattle.condition_tests.specs.Known.{IsCandidate, KnownInDomains, sort_at, known_part};
 ghost use Rattle.condition_tests.specs.Meaning.{AtomHolds};
 ghost use Rattle.condition_tests.specs.Places.{AtomInRange, GoalsInRange, PlaceInRange};
 ghost use Rattle.bindings.specs.Fits.{Fits, SomeFits, IsComplete, IsStopped};
@@ -9,9 +9,9 @@ ghost use Rattle.candidate_values.specs.Kept.{IsKept};
 ghost use Rattle.bindings.specs.Tries.{AreTried, GoalAt, IsTry};
 
 use crate::row::row_of;
-use crate::search::{Choice, choose, finds, passed, put};
+use crate::search::{Choice, choose, choose_given, finds, first_with_open, passed, put};
 use candidate_values::{Ends, Offer, Reaches, Search, settle};
-use condition_tests::{Atom, Property, Relation, Slot, free_at, known};
+use condition_tests::{Atom, Property, Relation, Slot, known, open_at};
 use planned_goals::{fewest, literal_at};
 use query_spec::{Row, copied_bound};
 use sd_value::{NoMemory, Value};
@@ -27,13 +27,13 @@ fn first_after<S: Store>(
     to: &Slot,
     current: &[Option<Value>],
 ) -> Result<Option<Offer>, NoMemory>
-    requires as_long { length search.now.arcs.now ≡ length current.now }
+    requires as_long { length search.now.sorts.now ≡ length current.now }
     requires from_in_range { PlaceInRange (length current.now) from.now }
     requires to_in_range { PlaceInRange (length current.now) to.now }
     ensures { IfOk result
         (λ r. IfSome r
         (λ o. AreTried
-        (S.graph search.now.store.now) search.now.arcs.now
+        (S.graph search.now.store.now) search.now.sorts.now
         (AtomHolds (S.graph search.now.store.now) search.now.version
         (Atom.Two from.now relation.now to.now))
         current.now o.slot o.values.items o.settled)) }
@@ -44,7 +44,7 @@ fn first_after<S: Store>(
     let Some(u) = known(from, current) else {
         return Ok(None);
     };
-    let Some(slot) = free_at(to, current) else {
+    let Some(slot) = open_at(to, search.sorts, current) else {
         return Ok(None);
     };
     let values = search.store.first_out(alloc, u, label, 1)?;
@@ -70,13 +70,13 @@ fn first_before<S: Store>(
     to: &Slot,
     current: &[Option<Value>],
 ) -> Result<Option<Offer>, NoMemory>
-    requires as_long { length search.now.arcs.now ≡ length current.now }
+    requires as_long { length search.now.sorts.now ≡ length current.now }
     requires from_in_range { PlaceInRange (length current.now) from.now }
     requires to_in_range { PlaceInRange (length current.now) to.now }
     ensures { IfOk result
         (λ r. IfSome r
         (λ o. AreTried
-        (S.graph search.now.store.now) search.now.arcs.now
+        (S.graph search.now.store.now) search.now.sorts.now
         (AtomHolds (S.graph search.now.store.now) search.now.version
         (Atom.Two from.now relation.now to.now))
         current.now o.slot o.values.items o.settled)) }
@@ -87,7 +87,7 @@ fn first_before<S: Store>(
     let Some(v) = known(to, current) else {
         return Ok(None);
     };
-    let Some(slot) = free_at(from, current) else {
+    let Some(slot) = open_at(from, search.sorts, current) else {
         return Ok(None);
     };
     let values = search.store.first_incoming(alloc, v, label, 1)?;
@@ -112,12 +112,12 @@ fn first_member<S: Store>(
     property: &Property,
     current: &[Option<Value>],
 ) -> Result<Option<Offer>, NoMemory>
-    requires as_long { length search.now.arcs.now ≡ length current.now }
+    requires as_long { length search.now.sorts.now ≡ length current.now }
     requires in_range { PlaceInRange (length current.now) place.now }
     ensures { IfOk result
         (λ r. IfSome r
         (λ o. AreTried
-        (S.graph search.now.store.now) search.now.arcs.now
+        (S.graph search.now.store.now) search.now.sorts.now
         (AtomHolds (S.graph search.now.store.now) search.now.version
         (Atom.One place.now property.now))
         current.now o.slot o.values.items o.settled)) }
@@ -125,7 +125,7 @@ fn first_member<S: Store>(
     let Property::Member(collection) = property else {
         return Ok(None);
     };
-    let Some(slot) = free_at(place, current) else {
+    let Some(slot) = open_at(place, search.sorts, current) else {
         return Ok(None);
     };
     let values = search.store.first_members(alloc, collection, 1)?;
@@ -149,12 +149,12 @@ fn first_offer<S: Store>(
     atom: &Atom,
     current: &[Option<Value>],
 ) -> Result<Option<Offer>, NoMemory>
-    requires as_long { length search.now.arcs.now ≡ length current.now }
+    requires as_long { length search.now.sorts.now ≡ length current.now }
     requires in_range { AtomInRange (length current.now) atom.now }
     ensures { IfOk result
         (λ r. IfSome r
         (λ o. AreTried
-        (S.graph search.now.store.now) search.now.arcs.now
+        (S.graph search.now.store.now) search.now.sorts.now
         (AtomHolds (S.graph search.now.store.now) search.now.version atom.now)
         current.now o.slot o.values.items o.settled)) }
 {
@@ -170,7 +170,7 @@ fn first_offer<S: Store>(
             let offer = first_before(alloc, search, from, relation, to, current)?;
             Ok(offer)
         }
-        Atom::Arc(_, _, _) => Ok(None),
+        Atom::Arc(_, _, _) | Atom::Call(_, _, _) => Ok(None),
     }
 }
 
@@ -181,13 +181,13 @@ fn first_of_goal<S: Store>(
     goal: usize,
     current: &[Option<Value>],
 ) -> Result<Option<Offer>, NoMemory>
-    requires as_long { length search.now.arcs.now ≡ length current.now }
+    requires as_long { length search.now.sorts.now ≡ length current.now }
     requires in_range { GoalsInRange (length current.now) search.now.goals.now }
     requires within { goal < length search.now.goals.now }
     ensures { IfOk result
         (λ r. IfSome r
         (λ o. AreTried
-        (S.graph search.now.store.now) search.now.arcs.now
+        (S.graph search.now.store.now) search.now.sorts.now
         (GoalAt (S.graph search.now.store.now) search.now.version search.now.goals.now goal)
         current.now o.slot o.values.items o.settled)) }
 {
@@ -217,7 +217,7 @@ fn choose_first<S: Store>(
     at: usize,
     current: &[Option<Value>],
 ) -> Result<Option<Choice>, NoMemory>
-    requires as_long { length search.now.arcs.now ≡ length current.now }
+    requires as_long { length search.now.sorts.now ≡ length current.now }
     requires in_range { GoalsInRange (length current.now) search.now.goals.now }
     requires stopped { IsStopped search.now.goals.now at current.now }
     requires kept { IsKept (S.graph search.now.store.now) search.now.goals.now kept.old }
@@ -226,11 +226,14 @@ fn choose_first<S: Store>(
     ensures choice { IfOk result
         (λ r. MatchOption r (IsComplete search.now.goals.now at current.now)
         (λ c. IsTry
-        (S.graph search.now.store.now) search.now.version search.now.arcs.now search.now.goals.now
+        (S.graph search.now.store.now) search.now.version search.now.sorts.now search.now.goals.now
         at current.now c.slot c.values.items c.next)) }
 {
-    if at < search.goals.len() {
-        let goal = fewest(alloc, search, kept, at, current)?;
+    if let Some(choice) = choose_given(alloc, search, at, current)? {
+        return Ok(Some(choice));
+    }
+    if let Some(open) = first_with_open(search, at, current) {
+        let goal = fewest(alloc, search, kept, open, current)?;
         if let Some(offer) = first_of_goal(alloc, search, goal, current)? {
             let next = next_after(at, goal, offer.settled);
             return Ok(Some(Choice {
@@ -253,15 +256,15 @@ fn finds_first<S: Store>(
     at: usize,
     current: &mut [Option<Value>],
 ) -> Result<bool, NoMemory>
-    requires known { KnownInDomains (S.graph search.now.store.now) search.now.arcs.now current.old }
-    requires as_long { length search.now.arcs.now ≡ length current.old }
+    requires known { KnownInDomains (S.graph search.now.store.now) search.now.sorts.now current.old }
+    requires as_long { length search.now.sorts.now ≡ length current.old }
     requires in_range { GoalsInRange (length current.old) search.now.goals.now }
     requires kept { IsKept (S.graph search.now.store.now) search.now.goals.now kept.old }
     ensures kept { IfOk result
         (λ _. IsKept (S.graph search.now.store.now) search.now.goals.now kept.new) }
     ensures row { IfOk result
         (λ b. IsTrue b
-        → Fits (S.graph search.now.store.now) search.now.version search.now.arcs.now
+        → Fits (S.graph search.now.store.now) search.now.version search.now.sorts.now
         search.now.goals.now at current.old (known_part current.new)) }
 {
     let Some(at) = passed(alloc, search, kept, at, current)? else {
@@ -291,15 +294,15 @@ fn first_witness<S: Store>(
     at: usize,
     current: &[Option<Value>],
 ) -> Result<Option<Row>, NoMemory>
-    requires known { KnownInDomains (S.graph search.now.store.now) search.now.arcs.now current.now }
-    requires as_long { length search.now.arcs.now ≡ length current.now }
+    requires known { KnownInDomains (S.graph search.now.store.now) search.now.sorts.now current.now }
+    requires as_long { length search.now.sorts.now ≡ length current.now }
     requires in_range { GoalsInRange (length current.now) search.now.goals.now }
     requires kept { IsKept (S.graph search.now.store.now) search.now.goals.now kept.old }
     ensures kept { IfOk result
         (λ _. IsKept (S.graph search.now.store.now) search.now.goals.now kept.new) }
     ensures row { IfOk result
         (λ r. IfSome r
-        (Fits (S.graph search.now.store.now) search.now.version search.now.arcs.now
+        (Fits (S.graph search.now.store.now) search.now.version search.now.sorts.now
         search.now.goals.now at current.now)) }
 {
     let mut trial = copied_bound(alloc, current)?;
@@ -319,17 +322,17 @@ pub(crate) fn witness<S: Store>(
     at: usize,
     current: &[Option<Value>],
 ) -> Result<Option<Row>, NoMemory>
-    requires known { KnownInDomains (S.graph search.now.store.now) search.now.arcs.now current.now }
-    requires as_long { length search.now.arcs.now ≡ length current.now }
+    requires known { KnownInDomains (S.graph search.now.store.now) search.now.sorts.now current.now }
+    requires as_long { length search.now.sorts.now ≡ length current.now }
     requires in_range { GoalsInRange (length current.now) search.now.goals.now }
     requires kept { IsKept (S.graph search.now.store.now) search.now.goals.now kept.old }
     ensures kept { IfOk result
         (λ _. IsKept (S.graph search.now.store.now) search.now.goals.now kept.new) }
     ensures row { IfOk result
         (λ r. MatchOption r
-        (SomeFits (S.graph search.now.store.now) search.now.version search.now.arcs.now
+        (SomeFits (S.graph search.now.store.now) search.now.version search.now.sorts.now
         search.now.goals.now at current.now → ⊥)
-        (λ t. Fits (S.graph search.now.store.now) search.now.version search.now.arcs.now
+        (λ t. Fits (S.graph search.now.store.now) search.now.version search.now.sorts.now
         search.now.goals.now at current.now t)) }
 {
     if let Some(row) = first_witness(alloc, search, kept, at, current)? {

@@ -1,24 +1,25 @@
 // Domains of variables.
-ghost use Rattle.std.specs.Prelude.{◌≡◌, ◌↔◌, IfOk, IsTrue, map, if◌then◌else◌, ◌++◌, ◌∷◌, []};
+ghost use Rattle.std.specs.Prelude.{◌≡◌, ◌≢◌, ◌↔◌, IfOk, IsTrue, map, if◌then◌else◌, ◌++◌, ◌∷◌, []};
 ghost use Rattle.condition_tests.specs.Known.{IsCandidate};
 ghost use Rattle.candidate_values.specs.Offers.{AreInGraph, IsListOf, IsPartOf};
 ghost use Rattle.graph_spec.specs.DataGraph.{text};
 
+use query_spec::Sort;
 use sd_value::{Datum, NoMemory, Str, Value};
 use std::alloc::{AllocError, Global};
 use store::Store;
 
 /// Whether a variable may take the value.
-pub fn in_domain<S: Store>(store: &S, arc: bool, value: &Value) -> bool
-    ensures { IsTrue result ↔ IsCandidate (S.graph store.now) arc value.now }
+pub fn in_domain<S: Store>(store: &S, sort: Sort, value: &Value) -> bool
+    ensures { IsTrue result ↔ IsCandidate (S.graph store.now) sort value.now }
 {
-    if arc {
-        match value {
+    match sort {
+        Sort::Node => store.is_value(value),
+        Sort::Arc => match value {
             Value::Data(Datum::Text(label)) => store.is_label(label),
             _ => false,
-        }
-    } else {
-        store.is_value(value)
+        },
+        Sort::Computed => matches!(value, Value::Data(Datum::Int(_) | Datum::Text(_))),
     }
 }
 
@@ -33,15 +34,19 @@ fn texts(alloc: Global, labels: Vec<Str>) -> Result<Vec<Value>, NoMemory>
         .map_err(|_: AllocError| NoMemory)
 }
 
-// All values that a variable may take.
-pub(crate) fn domain<S: Store>(alloc: Global, store: &S, arc: bool) -> Result<Vec<Value>, NoMemory>
-    ensures { IfOk result (λ values. IsListOf (IsCandidate (S.graph store.now) arc) values.items) }
+// All values that a variable with a domain may take.
+pub(crate) fn domain<S: Store>(alloc: Global, store: &S, sort: Sort) -> Result<Vec<Value>, NoMemory>
+    requires { sort ≢ Sort.Computed }
+    ensures { IfOk result (λ values. IsListOf (IsCandidate (S.graph store.now) sort) values.items) }
 {
-    if arc {
-        let values = texts(alloc, store.labels(alloc)?)?;
-        Ok(values)
-    } else {
-        store.values(alloc)
+    match sort {
+        Sort::Node => store.values(alloc),
+        Sort::Arc => {
+            let values = texts(alloc, store.labels(alloc)?)?;
+            Ok(values)
+        }
+        // (This doesn't come.)
+        Sort::Computed => Ok(Vec::new(alloc)),
     }
 }
 
@@ -59,15 +64,15 @@ pub(crate) fn keep_if(kept: &mut Vec<Value>, good: bool, value: Value) -> Result
 pub(crate) fn within<S: Store>(
     alloc: Global,
     store: &S,
-    arc: bool,
+    sort: Sort,
     mut values: Vec<Value>,
 ) -> Result<Vec<Value>, NoMemory>
     ensures { IfOk result
-        (λ kept. IsPartOf (IsCandidate (S.graph store.now) arc) values.items kept.items) }
+        (λ kept. IsPartOf (IsCandidate (S.graph store.now) sort) values.items kept.items) }
 {
     let mut kept = Vec::with_capacity(alloc, values.len())?;
     while let Some(value) = values.pop() {
-        let good = in_domain(store, arc, &value);
+        let good = in_domain(store, sort, &value);
         keep_if(&mut kept, good, value)?;
     }
     Ok(kept)
@@ -77,19 +82,19 @@ pub(crate) fn within<S: Store>(
 pub(crate) fn candidates<S: Store>(
     alloc: Global,
     store: &S,
-    arc: bool,
+    sort: Sort,
     in_graph: bool,
     values: Vec<Value>,
 ) -> Result<Vec<Value>, NoMemory>
     requires { AreInGraph (S.graph store.now) in_graph values.items }
     ensures { IfOk result
-        (λ kept. IsPartOf (IsCandidate (S.graph store.now) arc) values.items kept.items) }
+        (λ kept. IsPartOf (IsCandidate (S.graph store.now) sort) values.items kept.items) }
 {
-    if in_graph && !arc {
+    if in_graph && matches!(sort, Sort::Node) {
         // This call reports that the graph is well formed.
         let _sizes = store.sizes();
         return Ok(values);
     }
-    let kept = within(alloc, store, arc, values)?;
+    let kept = within(alloc, store, sort, values)?;
     Ok(kept)
 }

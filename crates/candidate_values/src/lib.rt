@@ -8,7 +8,7 @@ mod search;
 mod walk_offer;
 
 pub use domain::in_domain;
-pub use offer::{Ends, Offer, any, offer_values, settle};
+pub use offer::{Ends, Offer, any, offer_given, offer_values, settle};
 pub use reaches::Reaches;
 pub use search::Search;
 pub use walk_offer::{WalkAtom, offer_walk, walk_of};

@@ -1,25 +1,31 @@
 // The values that a free variable of a condition may take.
-ghost use Rattle.std.specs.Prelude.{◌≡◌, ◌<◌, ℕ, IfOk, IfSome, MatchOption, IsTrue, Contains, length, None, Some};
+ghost use Rattle.std.specs.Prelude.{◌≡◌, ◌≢◌, ◌<◌, ℕ, All, IfOk, IfSome, MatchOption, IsTrue, Contains, length, None, Some};
 ghost use Rattle.std.specs.Prelude.{slice_get, map, true, false};
+ghost use Rattle.std.specs.Global.{Vec as AnyVec};
+ghost use Rattle.condition_tests.specs.declared.literal.Slot.{Slot as AnySlot};
 ghost use Rattle.sd_value.specs.Ascending.{ListsExactly};
 ghost use Rattle.sd_value.specs.Order.{value_cmp};
 ghost use Rattle.graph_spec.specs.DataGraph.{node, text};
-ghost use Rattle.condition_tests.specs.Known.{IsCandidate, is_arc};
+ghost use Rattle.query_spec.specs.declared.Sort.TheVariants.{Computed};
+ghost use Rattle.condition_tests.specs.Known.{IsCandidate, sort_at};
 ghost use Rattle.query_spec.specs.Holds.{Compares};
 ghost use Rattle.condition_tests.specs.Meaning.{Has, HasArc, Relates};
-ghost use Rattle.condition_tests.specs.Places.{AtomInRange, IsGround, PlaceInRange};
+ghost use Rattle.condition_tests.specs.Places.{AtomInRange, IsGround, IsOpen, PlaceInRange};
 ghost use Rattle.candidate_values.specs.Offers.{AreInGraph, IsListOf, IsPartOf, IsOffer, Lists, IsSettled, IsAny};
 
 use crate::domain::{candidates, domain};
 use crate::search::Search;
 use condition_tests::{
-    Atom, Property, Relation, Slot, equals_of, equals_of_any, free_at, known, value_of,
+    Atom, Property, Relation, Slot, equals_of, equals_of_any, free_at, known, known_all, open_at,
+    value_of,
 };
+use function_spec::Function;
 use graph_spec::{Edge, Step};
 use query_spec::Op;
 use sd_value::{Datum, NoMemory, Value, sort_and_dedup};
 use std::alloc::{AllocError, Global};
 use store::Store;
+use text_functions::values;
 
 /// Values for a variable. Where it is settled, each of them makes the condition hold.
 #[derive(Drop)]
@@ -178,12 +184,12 @@ pub fn settle<S: Store>(
     slot: usize,
     ends: Ends,
 ) -> Result<Offer, NoMemory>
-    requires slot { slot < length search.now.arcs.now }
+    requires slot { slot < length search.now.sorts.now }
     requires in_graph { AreInGraph
         (S.graph search.now.store.now) ends.in_graph ends.values.items }
     ensures { IfOk result
         (λ o. IsSettled
-        (S.graph search.now.store.now) search.now.arcs.now slot ends.values.items ends.exact o.slot
+        (S.graph search.now.store.now) search.now.sorts.now slot ends.values.items ends.exact o.slot
         o.values.items o.settled) }
 {
     let Ends {
@@ -191,7 +197,7 @@ pub fn settle<S: Store>(
         exact,
         in_graph,
     } = ends;
-    let values = candidates(alloc, search.store, search.arcs[slot], in_graph, values)?;
+    let values = candidates(alloc, search.store, search.sorts[slot], in_graph, values)?;
     Ok(Offer {
         slot,
         values,
@@ -199,14 +205,15 @@ pub fn settle<S: Store>(
     })
 }
 
-/// All values that the variable may take.
+/// All values that the variable may take, which has a domain.
 pub fn any<S: Store>(alloc: Global, search: &Search<S>, slot: usize) -> Result<Offer, NoMemory>
-    requires { slot < length search.now.arcs.now }
+    requires within { slot < length search.now.sorts.now }
+    requires domain { sort_at search.now.sorts.now slot ≢ Computed }
     ensures { IfOk result
-        (λ o. IsAny (S.graph search.now.store.now) search.now.arcs.now slot o.slot o.values.items
+        (λ o. IsAny (S.graph search.now.store.now) search.now.sorts.now slot o.slot o.values.items
         o.settled) }
 {
-    let values = domain(alloc, search.store, search.arcs[slot])?;
+    let values = domain(alloc, search.store, search.sorts[slot])?;
     Ok(Offer {
         slot,
         values,
@@ -223,18 +230,18 @@ fn offer_after<S: Store>(
     to: &Slot,
     current: &[Option<Value>],
 ) -> Result<Option<Offer>, NoMemory>
-    requires as_long { length search.now.arcs.now ≡ length current.now }
+    requires as_long { length search.now.sorts.now ≡ length current.now }
     requires from_in_range { PlaceInRange (length current.now) from.now }
     requires to_in_range { PlaceInRange (length current.now) to.now }
     ensures { IfOk result
         (λ r. IfSome r
-        (λ o. IsOffer (S.graph search.now.store.now) search.now.version search.now.arcs.now
+        (λ o. IsOffer (S.graph search.now.store.now) search.now.version search.now.sorts.now
         (Atom.Two from.now relation.now to.now) current.now o.slot o.values.items o.settled)) }
 {
     let Some(u) = known(from, current) else {
         return Ok(None);
     };
-    let Some(slot) = free_at(to, current) else {
+    let Some(slot) = open_at(to, search.sorts, current) else {
         return Ok(None);
     };
     let Some(ends) = after(alloc, search.store, search.version, relation, u)? else {
@@ -253,18 +260,18 @@ fn offer_before<S: Store>(
     to: &Slot,
     current: &[Option<Value>],
 ) -> Result<Option<Offer>, NoMemory>
-    requires as_long { length search.now.arcs.now ≡ length current.now }
+    requires as_long { length search.now.sorts.now ≡ length current.now }
     requires from_in_range { PlaceInRange (length current.now) from.now }
     requires to_in_range { PlaceInRange (length current.now) to.now }
     ensures { IfOk result
         (λ r. IfSome r
-        (λ o. IsOffer (S.graph search.now.store.now) search.now.version search.now.arcs.now
+        (λ o. IsOffer (S.graph search.now.store.now) search.now.version search.now.sorts.now
         (Atom.Two from.now relation.now to.now) current.now o.slot o.values.items o.settled)) }
 {
     let Some(v) = known(to, current) else {
         return Ok(None);
     };
-    let Some(slot) = free_at(from, current) else {
+    let Some(slot) = open_at(from, search.sorts, current) else {
         return Ok(None);
     };
     let Some(ends) = before(alloc, search.store, search.version, relation, v)? else {
@@ -306,7 +313,7 @@ fn property_values<S: Store>(
                 in_graph: false,
             }))
         }
-        Property::Kind(_) => Ok(None),
+        Property::Kind(_) | Property::Matches(_) => Ok(None),
     }
 }
 
@@ -318,14 +325,14 @@ fn offer_one<S: Store>(
     slot: usize,
     current: &[Option<Value>],
 ) -> Result<Offer, NoMemory>
-    requires as_long { length search.now.arcs.now ≡ length current.now }
+    requires as_long { length search.now.sorts.now ≡ length current.now }
     requires in_range { PlaceInRange (length current.now) place.now }
-    requires free { slice_get current.now slot ≡ Some None }
+    requires open { IsOpen search.now.sorts.now current.now slot }
     ensures { IfOk result
-        (λ o. IsOffer (S.graph search.now.store.now) search.now.version search.now.arcs.now
+        (λ o. IsOffer (S.graph search.now.store.now) search.now.version search.now.sorts.now
         (Atom.One place.now property.now) current.now o.slot o.values.items o.settled) }
 {
-    let Some(slot) = free_at(place, current) else {
+    let Some(slot) = open_at(place, search.sorts, current) else {
         let offer = any(alloc, search, slot)?;
         return Ok(offer);
     };
@@ -346,18 +353,18 @@ fn offer_starts<S: Store>(
     to: &Slot,
     current: &[Option<Value>],
 ) -> Result<Option<Offer>, NoMemory>
-    requires as_long { length search.now.arcs.now ≡ length current.now }
+    requires as_long { length search.now.sorts.now ≡ length current.now }
     requires from_in_range { PlaceInRange (length current.now) from.now }
     requires to_in_range { PlaceInRange (length current.now) to.now }
     ensures { IfOk result
         (λ r. IfSome r
-        (λ o. IsOffer (S.graph search.now.store.now) search.now.version search.now.arcs.now
+        (λ o. IsOffer (S.graph search.now.store.now) search.now.version search.now.sorts.now
         (Atom.Two from.now relation.now to.now) current.now o.slot o.values.items o.settled)) }
 {
     let Relation::Edge(label) = relation else {
         return Ok(None);
     };
-    let Some(slot) = free_at(from, current) else {
+    let Some(slot) = open_at(from, search.sorts, current) else {
         return Ok(None);
     };
     let values = starts_of(alloc, search.store.edges_by(alloc, label)?)?;
@@ -383,12 +390,12 @@ fn offer_two<S: Store>(
     slot: usize,
     current: &[Option<Value>],
 ) -> Result<Offer, NoMemory>
-    requires as_long { length search.now.arcs.now ≡ length current.now }
+    requires as_long { length search.now.sorts.now ≡ length current.now }
     requires from_in_range { PlaceInRange (length current.now) from.now }
     requires to_in_range { PlaceInRange (length current.now) to.now }
-    requires free { slice_get current.now slot ≡ Some None }
+    requires open { IsOpen search.now.sorts.now current.now slot }
     ensures { IfOk result
-        (λ o. IsOffer (S.graph search.now.store.now) search.now.version search.now.arcs.now
+        (λ o. IsOffer (S.graph search.now.store.now) search.now.version search.now.sorts.now
         (Atom.Two from.now relation.now to.now) current.now o.slot o.values.items o.settled) }
 {
     if let Some(offer) = offer_after(alloc, search, from, relation, to, current)? {
@@ -440,13 +447,13 @@ fn offer_arc_from<S: Store>(
     to: &Slot,
     current: &[Option<Value>],
 ) -> Result<Option<Offer>, NoMemory>
-    requires as_long { length search.now.arcs.now ≡ length current.now }
+    requires as_long { length search.now.sorts.now ≡ length current.now }
     requires from_in_range { PlaceInRange (length current.now) from.now }
     requires arc_in_range { arc < length current.now }
     requires to_in_range { PlaceInRange (length current.now) to.now }
     ensures { IfOk result
         (λ r. IfSome r
-        (λ o. IsOffer (S.graph search.now.store.now) search.now.version search.now.arcs.now
+        (λ o. IsOffer (S.graph search.now.store.now) search.now.version search.now.sorts.now
         (Atom.Arc from.now arc to.now) current.now o.slot o.values.items o.settled)) }
 {
     let Some(u) = known(from, current) else {
@@ -466,7 +473,7 @@ fn offer_arc_from<S: Store>(
         )?;
         return Ok(Some(offer));
     };
-    let Some(slot) = free_at(to, current) else {
+    let Some(slot) = open_at(to, search.sorts, current) else {
         return Ok(None);
     };
     let ends = arc_ends(alloc, search.store, u, label)?;
@@ -516,13 +523,13 @@ fn offer_arc_to<S: Store>(
     to: &Slot,
     current: &[Option<Value>],
 ) -> Result<Option<Offer>, NoMemory>
-    requires as_long { length search.now.arcs.now ≡ length current.now }
+    requires as_long { length search.now.sorts.now ≡ length current.now }
     requires from_in_range { PlaceInRange (length current.now) from.now }
     requires arc_in_range { arc < length current.now }
     requires to_in_range { PlaceInRange (length current.now) to.now }
     ensures { IfOk result
         (λ r. IfSome r
-        (λ o. IsOffer (S.graph search.now.store.now) search.now.version search.now.arcs.now
+        (λ o. IsOffer (S.graph search.now.store.now) search.now.version search.now.sorts.now
         (Atom.Arc from.now arc to.now) current.now o.slot o.values.items o.settled)) }
 {
     let Some(v) = known(to, current) else {
@@ -542,7 +549,7 @@ fn offer_arc_to<S: Store>(
         )?;
         return Ok(Some(offer));
     };
-    let Some(slot) = free_at(from, current) else {
+    let Some(slot) = open_at(from, search.sorts, current) else {
         return Ok(None);
     };
     let ends = arc_starts(alloc, search.store, label, v)?;
@@ -559,13 +566,13 @@ fn offer_arc<S: Store>(
     slot: usize,
     current: &[Option<Value>],
 ) -> Result<Offer, NoMemory>
-    requires as_long { length search.now.arcs.now ≡ length current.now }
+    requires as_long { length search.now.sorts.now ≡ length current.now }
     requires from_in_range { PlaceInRange (length current.now) from.now }
     requires arc_in_range { arc < length current.now }
     requires to_in_range { PlaceInRange (length current.now) to.now }
-    requires free { slice_get current.now slot ≡ Some None }
+    requires open { IsOpen search.now.sorts.now current.now slot }
     ensures { IfOk result
-        (λ o. IsOffer (S.graph search.now.store.now) search.now.version search.now.arcs.now
+        (λ o. IsOffer (S.graph search.now.store.now) search.now.version search.now.sorts.now
         (Atom.Arc from.now arc to.now) current.now o.slot o.values.items o.settled) }
 {
     if let Some(offer) = offer_arc_from(alloc, search, from, arc, to, current)? {
@@ -578,6 +585,68 @@ fn offer_arc<S: Store>(
     Ok(offer)
 }
 
+/// The values that the function gives for the variable left of it, if all its arguments are known.
+pub fn offer_given<S: Store>(
+    alloc: Global,
+    search: &Search<S>,
+    left: &Slot,
+    function: Function,
+    args: &[Slot],
+    current: &[Option<Value>],
+) -> Result<Option<Offer>, NoMemory>
+    requires as_long { length search.now.sorts.now ≡ length current.now }
+    requires left_in_range { PlaceInRange (length current.now) left.now }
+    requires args_in_range { All (PlaceInRange (length current.now)) args.now }
+    ensures { IfOk result
+        (λ r. IfSome r
+        (λ o. (places : AnyVec AnySlot) → places.items ≡ args.now
+        → IsOffer (S.graph search.now.store.now) search.now.version search.now.sorts.now
+        (Atom.Call left.now function places) current.now o.slot o.values.items o.settled)) }
+{
+    let Some(slot) = free_at(left, current) else {
+        return Ok(None);
+    };
+    let Some(arguments) = known_all(alloc, args, current)? else {
+        return Ok(None);
+    };
+    let given = values(alloc, function, &arguments)?;
+    let offer = settle(
+        alloc,
+        search,
+        slot,
+        Ends {
+            values: given,
+            exact: true,
+            in_graph: false,
+        },
+    )?;
+    Ok(Some(offer))
+}
+
+fn offer_call<S: Store>(
+    alloc: Global,
+    search: &Search<S>,
+    left: &Slot,
+    function: Function,
+    args: &[Slot],
+    slot: usize,
+    current: &[Option<Value>],
+) -> Result<Offer, NoMemory>
+    requires as_long { length search.now.sorts.now ≡ length current.now }
+    requires left_in_range { PlaceInRange (length current.now) left.now }
+    requires args_in_range { All (PlaceInRange (length current.now)) args.now }
+    requires open { IsOpen search.now.sorts.now current.now slot }
+    ensures { IfOk result
+        (λ o. (places : AnyVec AnySlot) → places.items ≡ args.now
+        → IsOffer (S.graph search.now.store.now) search.now.version search.now.sorts.now
+        (Atom.Call left.now function places) current.now o.slot o.values.items o.settled) }
+{
+    if let Some(offer) = offer_given(alloc, search, left, function, args, current)? {
+        return Ok(offer);
+    }
+    any(alloc, search, slot)
+}
+
 /// Values for a free variable of the atom.
 pub fn offer_values<S: Store>(
     alloc: Global,
@@ -586,12 +655,12 @@ pub fn offer_values<S: Store>(
     slot: usize,
     current: &[Option<Value>],
 ) -> Result<Offer, NoMemory>
-    requires as_long { length search.now.arcs.now ≡ length current.now }
+    requires as_long { length search.now.sorts.now ≡ length current.now }
     requires in_range { AtomInRange (length current.now) atom.now }
-    requires free { slice_get current.now slot ≡ Some None }
+    requires open { IsOpen search.now.sorts.now current.now slot }
     ensures { IfOk result
         (λ o. IsOffer
-        (S.graph search.now.store.now) search.now.version search.now.arcs.now atom.now current.now
+        (S.graph search.now.store.now) search.now.version search.now.sorts.now atom.now current.now
         o.slot o.values.items o.settled) }
 {
     match atom {
@@ -600,5 +669,8 @@ pub fn offer_values<S: Store>(
             alloc, search, from, relation, to, slot, current,
         ),
         Atom::Arc(from, arc, to) => offer_arc(alloc, search, from, *arc, to, slot, current),
+        Atom::Call(left, function, args) => {
+            offer_call(alloc, search, left, *function, args, slot, current)
+        }
     }
 }

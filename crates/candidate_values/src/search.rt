@@ -1,12 +1,13 @@
 // What a search works on.
 use condition_tests::Goal;
+use query_spec::Sort;
 
-/// A search for rows: the store that is asked, the version of the language, which variables stand for labels, and the
+/// A search for rows: the store that is asked, the version of the language, what each variable may be, and the
 /// goals in their order.
 #[derive(Drop)]
 pub struct Search<'a, S> {
     pub store: &'a S,
     pub version: u8,
-    pub arcs: &'a [bool],
+    pub sorts: &'a [Sort],
     pub goals: &'a [Goal],
 }

@@ -1,6 +1,6 @@
 // The values that a free variable of a walk may take.
 ghost use Rattle.std.specs.Prelude.{◌≡◌, IfOk, IfSome, length, None, Some, slice_get};
-ghost use Rattle.condition_tests.specs.Places.{PlaceInRange};
+ghost use Rattle.condition_tests.specs.Places.{IsOpen, PlaceInRange};
 ghost use Rattle.candidate_values.specs.Offers.{IsOffer};
 ghost use Rattle.candidate_values.specs.Kept.{IsWalkOf, IsKept};
 
@@ -8,7 +8,7 @@ use crate::offer::{Ends, Offer, any, settle};
 use crate::reaches::Reaches;
 use crate::search::Search;
 use automaton::Automaton;
-use condition_tests::{Atom, Relation, Slot, free_at, known};
+use condition_tests::{Atom, Relation, Slot, known, open_at};
 use sd_value::{NoMemory, Value};
 use std::alloc::Global;
 use store::Store;
@@ -51,7 +51,7 @@ fn offer_ends<S: Store>(
     to: &Slot,
     current: &[Option<Value>],
 ) -> Result<Option<Offer>, NoMemory>
-    requires as_long { length search.now.arcs.now ≡ length current.now }
+    requires as_long { length search.now.sorts.now ≡ length current.now }
     requires from_in_range { PlaceInRange (length current.now) from.now }
     requires to_in_range { PlaceInRange (length current.now) to.now }
     requires kept { IsKept (S.graph search.now.store.now) search.now.goals.now kept.old }
@@ -60,14 +60,14 @@ fn offer_ends<S: Store>(
         (λ _. IsKept (S.graph search.now.store.now) search.now.goals.now kept.new) }
     ensures offer { IfOk result
         (λ r. IfSome r
-        (λ o. IsOffer (S.graph search.now.store.now) search.now.version search.now.arcs.now
+        (λ o. IsOffer (S.graph search.now.store.now) search.now.version search.now.sorts.now
         (Atom.Two from.now (Relation.Walk automaton.now) to.now) current.now o.slot o.values.items
         o.settled)) }
 {
     let Some(u) = known(from, current) else {
         return Ok(None);
     };
-    let Some(slot) = free_at(to, current) else {
+    let Some(slot) = open_at(to, search.sorts, current) else {
         return Ok(None);
     };
     let values = kept.reach(alloc, search, goal, automaton, Direction::Onward, u)?;
@@ -95,7 +95,7 @@ fn offer_starts<S: Store>(
     to: &Slot,
     current: &[Option<Value>],
 ) -> Result<Option<Offer>, NoMemory>
-    requires as_long { length search.now.arcs.now ≡ length current.now }
+    requires as_long { length search.now.sorts.now ≡ length current.now }
     requires from_in_range { PlaceInRange (length current.now) from.now }
     requires to_in_range { PlaceInRange (length current.now) to.now }
     requires kept { IsKept (S.graph search.now.store.now) search.now.goals.now kept.old }
@@ -104,14 +104,14 @@ fn offer_starts<S: Store>(
         (λ _. IsKept (S.graph search.now.store.now) search.now.goals.now kept.new) }
     ensures offer { IfOk result
         (λ r. IfSome r
-        (λ o. IsOffer (S.graph search.now.store.now) search.now.version search.now.arcs.now
+        (λ o. IsOffer (S.graph search.now.store.now) search.now.version search.now.sorts.now
         (Atom.Two from.now (Relation.Walk automaton.now) to.now) current.now o.slot o.values.items
         o.settled)) }
 {
     let Some(v) = known(to, current) else {
         return Ok(None);
     };
-    let Some(slot) = free_at(from, current) else {
+    let Some(slot) = open_at(from, search.sorts, current) else {
         return Ok(None);
     };
     let values = kept.reach(alloc, search, goal, automaton, Direction::Backward, v)?;
@@ -140,16 +140,16 @@ pub fn offer_walk<S: Store>(
     slot: usize,
     current: &[Option<Value>],
 ) -> Result<Offer, NoMemory>
-    requires as_long { length search.now.arcs.now ≡ length current.now }
+    requires as_long { length search.now.sorts.now ≡ length current.now }
     requires from_in_range { PlaceInRange (length current.now) from.now }
     requires to_in_range { PlaceInRange (length current.now) to.now }
-    requires free { slice_get current.now slot ≡ Some None }
+    requires open { IsOpen search.now.sorts.now current.now slot }
     requires kept { IsKept (S.graph search.now.store.now) search.now.goals.now kept.old }
     requires walk { IsWalkOf search.now.goals.now goal automaton.now }
     ensures kept { IfOk result
         (λ _. IsKept (S.graph search.now.store.now) search.now.goals.now kept.new) }
     ensures offer { IfOk result
-        (λ o. IsOffer (S.graph search.now.store.now) search.now.version search.now.arcs.now
+        (λ o. IsOffer (S.graph search.now.store.now) search.now.version search.now.sorts.now
         (Atom.Two from.now (Relation.Walk automaton.now) to.now) current.now o.slot o.values.items
         o.settled) }
 {

@@ -10,12 +10,12 @@ use Rattle.constraint_recheck.specs.Search.{extend}
 abbrev pub IsMapped : (List Name → Bool) → Variable → Variable → List Name → List Name → Bool → Type 0
 IsMapped test v w old new allowed =
     let more = old ++ w.name ∷ [] in
-    let may = same_sort w.arc v.arc && test more in
+    let may = same_sort w.sort v.sort && test more in
     MatchBool allowed ((may ≡ true) × (new ≡ more)) ((may ≡ false) × (new ≡ old))
 
 -- the names are those that the search finds, or it finds none, and they are as they were
-abbrev pub IsExtended : (List Name → Bool) → List Variable → List Variable → List Name → List Name
-    → Bool → Type 0
-IsExtended test targets left old new found =
-    MatchBool found (extend test targets left old ≡ Some new)
-    ((extend test targets left old ≡ None) × (new ≡ old))
+abbrev pub IsExtended : (test last : List Name → Bool) → List Variable → List Variable → List Name
+    → List Name → Bool → Type 0
+IsExtended test last targets left old new found =
+    MatchBool found (extend test last targets left old ≡ Some new)
+    ((extend test last targets left old ≡ None) × (new ≡ old))

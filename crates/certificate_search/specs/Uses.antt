@@ -6,7 +6,7 @@ use Rattle.constraint_spec.specs.Placed.{PlacedLink, Mention}
 use Rattle.constraint_spec.specs.Use.{LinkUse}
 use Rattle.constraint_recheck.specs.Entails.{Tests}
 use Rattle.constraint_recheck.specs.Recheck.{is_of}
-use Rattle.constraint_recheck.specs.Search.{Numbered, names_tried, if_asked, use_by}
+use Rattle.constraint_recheck.specs.Search.{Numbered, given_by, names_tried, if_asked, use_by}
 
 -- the link's target is a term of the function, if one is asked for
 abbrev pub ends_at : Option Name → PlacedLink → Bool
@@ -21,4 +21,4 @@ asked_use tests q l good m = if_asked l good (use_by tests q m) None
 -- how many names are tried for it
 abbrev pub asked_tried : Tests → Scope → Label → (PlacedLink → Bool) → Mention → Numbered → ℕ
 asked_tried tests q l good m =
-    if_asked l good (λ n. names_tried tests q.version m.conditions n.link m.term None) 0
+    if_asked l good (λ n. names_tried tests q.version (given_by m) n.link m.term None) 0

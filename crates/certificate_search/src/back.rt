@@ -8,7 +8,7 @@ ghost use Rattle.struql_ast.specs.Reading.{term_of};
 ghost use Rattle.query_blocks.specs.Blocks.{scope_of};
 ghost use Rattle.query_parts.specs.Same.{same_term};
 ghost use Rattle.constraint_recheck.specs.Options.{first_of, fold_over, tried_over};
-ghost use Rattle.constraint_recheck.specs.Search.{add_links as links_added, levels};
+ghost use Rattle.constraint_recheck.specs.Search.{given_of, add_links as links_added, levels};
 ghost use Rattle.constraint_recheck.specs.Search.{links_tried, levels_tried, start_at};
 ghost use Rattle.constraint_recheck.specs.Search.{find_back as found_back, back_tried, root_term};
 ghost use Rattle.certificate_search.specs.Links.{AreLinks};
@@ -34,13 +34,14 @@ fn add_links<J: Judge>(
     from: &ReachedTerm,
     budget: &mut usize,
 ) -> Result<(), SearchStop>
-    requires chain { given.now ≡ chain_of query.now.blocks.now.version given.now.conditions }
+    requires chain { given.now ≡ chain_of query.now.blocks.now.version given.now.conditions
+        given.now.nones }
     requires links { AreLinks query.now.blocks.now query.now.links.now }
     ensures added { OnOk result (map reached_of seen.new.items ≡ links_added
-        (J.tests query.now.judge.now) (scope_of query.now.blocks.now) given.now.conditions
+        (J.tests query.now.judge.now) (scope_of query.now.blocks.now) (given_of given.now)
         (map reached_of seen.old.items) (reached_of from.now)) }
     ensures spent { Spends (links_tried (J.tests query.now.judge.now)
-        (scope_of query.now.blocks.now) given.now.conditions (map reached_of seen.old.items)
+        (scope_of query.now.blocks.now) (given_of given.now) (map reached_of seen.old.items)
         (reached_of from.now)) budget.old budget.new result }
 {
     for link in query.links {
@@ -75,16 +76,17 @@ fn add_level<J: Judge>(
     budget: &mut usize,
 ) -> Result<(), SearchStop>
     requires place { place ≤ length seen.old.items }
-    requires chain { given.now ≡ chain_of query.now.blocks.now.version given.now.conditions }
+    requires chain { given.now ≡ chain_of query.now.blocks.now.version given.now.conditions
+        given.now.nones }
     requires links { AreLinks query.now.blocks.now query.now.links.now }
     ensures added { OnOk result (map reached_of seen.new.items ≡ fold_over
         (links_added (J.tests query.now.judge.now) (scope_of query.now.blocks.now)
-        given.now.conditions) (map reached_of seen.old.items)
+        (given_of given.now)) (map reached_of seen.old.items)
         (drop place (map reached_of seen.old.items))) }
     ensures spent { Spends (tried_over
         (links_added (J.tests query.now.judge.now) (scope_of query.now.blocks.now)
-        given.now.conditions) (links_tried (J.tests query.now.judge.now)
-        (scope_of query.now.blocks.now) given.now.conditions) (map reached_of seen.old.items)
+        (given_of given.now)) (links_tried (J.tests query.now.judge.now)
+        (scope_of query.now.blocks.now) (given_of given.now)) (map reached_of seen.old.items)
         (drop place (map reached_of seen.old.items))) budget.old budget.new result }
 {
     for from in place..seen.len() {
@@ -102,13 +104,14 @@ fn add_levels<J: Judge>(
     seen: &mut Vec<ReachedTerm>,
     budget: &mut usize,
 ) -> Result<(), SearchStop>
-    requires chain { given.now ≡ chain_of query.now.blocks.now.version given.now.conditions }
+    requires chain { given.now ≡ chain_of query.now.blocks.now.version given.now.conditions
+        given.now.nones }
     requires links { AreLinks query.now.blocks.now query.now.links.now }
     ensures added { OnOk result (map reached_of seen.new.items ≡ levels
-        (J.tests query.now.judge.now) (scope_of query.now.blocks.now) given.now.conditions
+        (J.tests query.now.judge.now) (scope_of query.now.blocks.now) (given_of given.now)
         (length query.now.links.now) 0 (map reached_of seen.old.items)) }
     ensures spent { Spends (levels_tried (J.tests query.now.judge.now)
-        (scope_of query.now.blocks.now) given.now.conditions (length query.now.links.now) 0
+        (scope_of query.now.blocks.now) (given_of given.now) (length query.now.links.now) 0
         (map reached_of seen.old.items)) budget.old budget.new result }
 {
     let mut place = 0;
@@ -173,13 +176,14 @@ pub fn find_back<J: Judge>(
     term: &SkolemTerm,
     budget: &mut usize,
 ) -> Result<Option<Vec<LinkUse>>, SearchStop>
-    requires chain { given.now ≡ chain_of query.now.blocks.now.version given.now.conditions }
+    requires chain { given.now ≡ chain_of query.now.blocks.now.version given.now.conditions
+        given.now.nones }
     requires links { AreLinks query.now.blocks.now query.now.links.now }
     ensures found { IfOk result (λ r. option_map (λ uses. uses.items) r ≡ found_back
-        (J.tests query.now.judge.now) (scope_of query.now.blocks.now) given.now.conditions
+        (J.tests query.now.judge.now) (scope_of query.now.blocks.now) (given_of given.now)
         root.now (term_of term.now)) }
     ensures spent { Spends (back_tried (J.tests query.now.judge.now)
-        (scope_of query.now.blocks.now) given.now.conditions (term_of term.now))
+        (scope_of query.now.blocks.now) (given_of given.now) (term_of term.now))
         budget.old budget.new result }
 {
     let mut seen = start(alloc, term)?;

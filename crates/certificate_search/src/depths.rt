@@ -69,6 +69,9 @@ fn mentions(condition: &Condition, name: &Str) -> bool
             span: _,
         } => name == variable,
         Condition::Not(inner, _) => mentions(inner, name),
+        Condition::Gives { left, args, .. } => {
+            is_named(left, name) || args.items().iter().any(|arg| is_named(arg, name))
+        }
     }
 }
 

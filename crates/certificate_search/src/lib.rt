@@ -7,6 +7,7 @@ mod depths;
 mod due;
 mod extend;
 mod links;
+mod nones;
 mod renaming;
 mod search;
 mod shown;

@@ -13,7 +13,7 @@ use query_blocks::{QueryBlock, QueryBlocks};
 use query_spec::Variable;
 use sd_value::NoMemory;
 use std::alloc::Global;
-use struql_ast::{Chain, Condition, Link};
+use struql_ast::{Chain, Condition, Link, NoneOf};
 
 /// A link of a query.
 #[derive(Drop)]
@@ -22,6 +22,8 @@ pub struct NumberedLink<'a> {
     pub number: usize,
     /// The conditions of its chain.
     pub conditions: &'a [Condition],
+    /// The NONEs of its chain.
+    pub nones: &'a [NoneOf],
     /// The variables of its chain.
     pub variables: &'a [Variable],
     /// The link.
@@ -37,10 +39,14 @@ fn numbered<'a>(
     chain: &'a Chain,
     link: &'a Link,
 ) -> Result<NumberedLink<'a>, NoMemory>
-    requires { chain.now.variables ≡ variables_of chain.now.conditions }
+    requires { chain.now.variables ≡ variables_of chain.now.conditions chain.now.nones }
     ensures numbered { IfOk result (λ n. numbered_of n ≡ record {
       number = number;
-      link = record { conditions = chain.now.conditions; link = link_of link.now };
+      link = record {
+        conditions = chain.now.conditions;
+        nones = chain.now.nones;
+        link = link_of link.now;
+      };
     }) }
     ensures prepared { IfOk result IsPrepared }
 {
@@ -50,6 +56,7 @@ fn numbered<'a>(
     Ok(NumberedLink {
         number,
         conditions,
+        nones: chain.nones(),
         variables,
         link,
         depths,
@@ -62,7 +69,8 @@ fn add_block<'a>(
     links: &mut Vec<NumberedLink<'a>>,
     block: &'a QueryBlock,
 ) -> Result<(), NoMemory>
-    requires chain { block.now.chain.variables ≡ variables_of block.now.chain.conditions }
+    requires chain { block.now.chain.variables
+        ≡ variables_of block.now.chain.conditions block.now.chain.nones }
     requires prepared { All IsPrepared links.old.items }
     ensures all { OnOk result (map numbered_of links.new.items ≡ map numbered_of links.old.items
         ++ numbered_from (length links.old.items + 1) (body_links (body_of block.now))) }

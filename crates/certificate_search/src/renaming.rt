@@ -11,7 +11,7 @@ use query_spec::{Op, Test, Variable};
 use sd_lex::Span;
 use sd_value::{NoMemory, Str, copied_list};
 use std::alloc::Global;
-use struql_ast::{Condition, Constants, Operand, PathStep, SkolemTerm};
+use struql_ast::{Arguments, Condition, Constants, Operand, PathStep, SkolemTerm};
 
 // Variables of a chain, and names for the first of them.
 #[derive(Drop)]
@@ -239,6 +239,23 @@ pub fn renamed<'a>(
         Condition::Not(inner, span) => {
             negated(alloc, renamed(alloc, variables, names, inner)?, *span)
         }
+        Condition::Gives {
+            computes,
+            left,
+            sign,
+            function,
+            function_span,
+            args,
+            span,
+        } => Ok(Condition::Gives {
+            computes: *computes,
+            left: renamed_operand(alloc, variables, names, left)?,
+            sign: *sign,
+            function: *function,
+            function_span: *function_span,
+            args: Arguments::new(renamed_operands(alloc, variables, names, args.items())?),
+            span: *span,
+        }),
     }
 }
 

@@ -1,7 +1,7 @@
 // What a search for uses goes by.
 use crate::depths::Depths;
 use query_spec::Variable;
-use struql_ast::{Condition, Link, SkolemTerm};
+use struql_ast::{Condition, Link, NoneOf, SkolemTerm};
 
 /// A link, the conditions under which it is to be used, and the terms at its ends.
 #[derive(Drop)]
@@ -12,10 +12,14 @@ pub struct Search<'a, J> {
     pub version: u8,
     /// The conditions under which the link is to be used.
     pub given: &'a [Condition],
+    /// The NONEs under which it is.
+    pub given_nones: &'a [NoneOf],
     /// The variables of those conditions, by first mention.
     pub targets: &'a [Variable],
     /// The conditions of the link's chain.
     pub conditions: &'a [Condition],
+    /// The NONEs of the link's chain.
+    pub nones: &'a [NoneOf],
     /// The variables of the link's chain, by first mention.
     pub variables: &'a [Variable],
     /// The link.

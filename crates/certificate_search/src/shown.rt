@@ -28,11 +28,13 @@ pub fn show_link<J: Judge>(
     given: &Chain,
     term: &SkolemTerm,
 ) -> Result<Option<MentionProof>, NoMemory>
-    requires chain { given.now ≡ chain_of query.now.blocks.now.version given.now.conditions }
+    requires chain { given.now ≡ chain_of query.now.blocks.now.version given.now.conditions
+        given.now.nones }
     requires links { AreLinks query.now.blocks.now query.now.links.now }
     ensures { IfOk result (λ r. r ≡ find_shown (J.tests query.now.judge.now)
         (scope_of query.now.blocks.now) label.now (ends_at (option_copied function.entry)) (record {
           conditions = given.now.conditions;
+          nones = given.now.nones;
           term = term_of term.now;
         })) }
 {
@@ -59,11 +61,13 @@ pub fn show_reached<J: Judge>(
     given: &Chain,
     term: &SkolemTerm,
 ) -> Result<Option<MentionProof>, NoMemory>
-    requires chain { given.now ≡ chain_of query.now.blocks.now.version given.now.conditions }
+    requires chain { given.now ≡ chain_of query.now.blocks.now.version given.now.conditions
+        given.now.nones }
     requires links { AreLinks query.now.blocks.now query.now.links.now }
     ensures { IfOk result (λ r. r ≡ find_reached (J.tests query.now.judge.now)
         (scope_of query.now.blocks.now) function.now root.now (record {
           conditions = given.now.conditions;
+          nones = given.now.nones;
           term = term_of term.now;
         })) }
 {

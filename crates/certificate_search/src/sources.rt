@@ -8,7 +8,7 @@ ghost use Rattle.struql_ast.specs.Reading.{operand_of, term_of};
 ghost use Rattle.query_blocks.specs.Blocks.{scope_of};
 ghost use Rattle.query_parts.specs.Same.{same_term};
 ghost use Rattle.constraint_recheck.specs.Options.{fold_over, tried_over};
-ghost use Rattle.constraint_recheck.specs.Search.{choices, arg_choices as choices_of};
+ghost use Rattle.constraint_recheck.specs.Search.{given_of, choices, arg_choices as choices_of};
 ghost use Rattle.constraint_recheck.specs.Search.{add_source as source_added};
 ghost use Rattle.constraint_recheck.specs.Search.{add_sources as sources_added};
 ghost use Rattle.constraint_recheck.specs.Search.{source_tried, sources_tried};
@@ -104,14 +104,15 @@ fn add_source<J: Judge>(
     source: &SkolemTerm,
     budget: &mut usize,
 ) -> Result<(), SearchStop>
-    requires chain { given.now ≡ chain_of query.now.blocks.now.version given.now.conditions }
+    requires chain { given.now ≡ chain_of query.now.blocks.now.version given.now.conditions
+        given.now.nones }
     requires prepared { IsPrepared link.now }
     ensures added { OnOk result (map reached_of seen.new.items
         ≡ source_added (J.tests query.now.judge.now) (scope_of query.now.blocks.now)
-        given.now.conditions (reached_of from.now) (numbered_of link.now)
+        (given_of given.now) (reached_of from.now) (numbered_of link.now)
         (map reached_of seen.old.items) (term_of source.now)) }
     ensures spent { Spends (source_tried (J.tests query.now.judge.now)
-        (scope_of query.now.blocks.now) given.now.conditions (reached_of from.now)
+        (scope_of query.now.blocks.now) (given_of given.now) (reached_of from.now)
         (numbered_of link.now) (map reached_of seen.old.items) (term_of source.now))
         budget.old budget.new result }
 {
@@ -188,18 +189,19 @@ fn add_choices<J: Judge>(
     left: &[Operand],
     budget: &mut usize,
 ) -> Result<(), SearchStop>
-    requires chain { given.now ≡ chain_of query.now.blocks.now.version given.now.conditions }
+    requires chain { given.now ≡ chain_of query.now.blocks.now.version given.now.conditions
+        given.now.nones }
     requires prepared { IsPrepared link.now }
     ensures added { OnOk result (map reached_of seen.new.items ≡ fold_over
         (source_added (J.tests query.now.judge.now) (scope_of query.now.blocks.now)
-        given.now.conditions (reached_of from.now) (numbered_of link.now))
+        (given_of given.now) (reached_of from.now) (numbered_of link.now))
         (map reached_of seen.old.items) (with_args (term_of source.now)
         (choices given.now.variables (map operand_of left.now)))) }
     ensures spent { Spends (tried_over
         (source_added (J.tests query.now.judge.now) (scope_of query.now.blocks.now)
-        given.now.conditions (reached_of from.now) (numbered_of link.now))
+        (given_of given.now) (reached_of from.now) (numbered_of link.now))
         (source_tried (J.tests query.now.judge.now) (scope_of query.now.blocks.now)
-        given.now.conditions (reached_of from.now) (numbered_of link.now))
+        (given_of given.now) (reached_of from.now) (numbered_of link.now))
         (map reached_of seen.old.items) (with_args (term_of source.now)
         (choices given.now.variables (map operand_of left.now)))) budget.old budget.new result }
 {
@@ -239,14 +241,15 @@ pub fn add_sources<J: Judge>(
     link: &NumberedLink,
     budget: &mut usize,
 ) -> Result<(), SearchStop>
-    requires chain { given.now ≡ chain_of query.now.blocks.now.version given.now.conditions }
+    requires chain { given.now ≡ chain_of query.now.blocks.now.version given.now.conditions
+        given.now.nones }
     requires prepared { IsPrepared link.now }
     ensures added { OnOk result (map reached_of seen.new.items
         ≡ sources_added (J.tests query.now.judge.now) (scope_of query.now.blocks.now)
-        given.now.conditions (reached_of from.now) (map reached_of seen.old.items)
+        (given_of given.now) (reached_of from.now) (map reached_of seen.old.items)
         (numbered_of link.now)) }
     ensures spent { Spends (sources_tried (J.tests query.now.judge.now)
-        (scope_of query.now.blocks.now) given.now.conditions (reached_of from.now)
+        (scope_of query.now.blocks.now) (given_of given.now) (reached_of from.now)
         (map reached_of seen.old.items) (numbered_of link.now)) budget.old budget.new result }
 {
     if !is_of(&link.link.target, &from.term.function) {

@@ -5,7 +5,7 @@ ghost use Rattle.query_spec.specs.Mentions.{chain_of};
 ghost use Rattle.struql_ast.specs.Reading.{label_of, term_of};
 ghost use Rattle.query_blocks.specs.Blocks.{scope_of};
 ghost use Rattle.constraint_recheck.specs.Recheck.{is_quoted as has_label};
-ghost use Rattle.constraint_recheck.specs.Search.{find_names as names_found, names_tried};
+ghost use Rattle.constraint_recheck.specs.Search.{given_of, find_names as names_found, names_tried};
 ghost use Rattle.constraint_recheck.specs.Search.{find_use as found, use_tried};
 ghost use Rattle.certificate_search.specs.Links.{numbered_of, IsPrepared, AreLinks};
 ghost use Rattle.certificate_search.specs.Uses.{ends_at, asked_use, asked_tried};
@@ -43,22 +43,25 @@ pub fn names_of_use<'a, J: Judge>(
     target: Option<&'a SkolemTerm>,
     budget: &mut usize,
 ) -> Result<Option<Vec<Str>>, SearchStop>
-    requires chain { given.now ≡ chain_of query.now.blocks.now.version given.now.conditions }
+    requires chain { given.now ≡ chain_of query.now.blocks.now.version given.now.conditions
+        given.now.nones }
     requires prepared { IsPrepared link.now }
     ensures found { IfOk result (λ r. option_map (λ names. names.items) r
         ≡ names_found (J.tests query.now.judge.now) query.now.blocks.now.version
-        given.now.conditions (numbered_of link.now).link (term_of source.now)
+        (given_of given.now) (numbered_of link.now).link (term_of source.now)
         (option_map term_of (option_copied target.entry))) }
     ensures spent { Spends (names_tried (J.tests query.now.judge.now) query.now.blocks.now.version
-        given.now.conditions (numbered_of link.now).link (term_of source.now)
+        (given_of given.now) (numbered_of link.now).link (term_of source.now)
         (option_map term_of (option_copied target.entry))) budget.old budget.new result }
 {
     let search = Search {
         judge: query.judge,
         version: query.blocks.version,
         given: given.conditions(),
+        given_nones: given.nones(),
         targets: given.variables(),
         conditions: link.conditions,
+        nones: link.nones,
         variables: link.variables,
         link: link.link,
         depths: &link.depths,
@@ -98,16 +101,19 @@ fn use_of<J: Judge>(
     link: &NumberedLink,
     budget: &mut usize,
 ) -> Result<Option<LinkUse>, SearchStop>
-    requires chain { given.now ≡ chain_of query.now.blocks.now.version given.now.conditions }
+    requires chain { given.now ≡ chain_of query.now.blocks.now.version given.now.conditions
+        given.now.nones }
     requires prepared { IsPrepared link.now }
     ensures found { IfOk result (λ r. r ≡ asked_use (J.tests query.now.judge.now)
         (scope_of query.now.blocks.now) label.now (ends_at (option_copied function.entry)) (record {
           conditions = given.now.conditions;
+          nones = given.now.nones;
           term = term_of term.now;
         }) (numbered_of link.now)) }
     ensures spent { Spends (asked_tried (J.tests query.now.judge.now)
         (scope_of query.now.blocks.now) label.now (ends_at (option_copied function.entry)) (record {
           conditions = given.now.conditions;
+          nones = given.now.nones;
           term = term_of term.now;
         }) (numbered_of link.now)) budget.old budget.new result }
 {
@@ -134,16 +140,19 @@ pub fn find_use<J: Judge>(
     term: &SkolemTerm,
     budget: &mut usize,
 ) -> Result<Option<LinkUse>, SearchStop>
-    requires chain { given.now ≡ chain_of query.now.blocks.now.version given.now.conditions }
+    requires chain { given.now ≡ chain_of query.now.blocks.now.version given.now.conditions
+        given.now.nones }
     requires links { AreLinks query.now.blocks.now query.now.links.now }
     ensures found { IfOk result (λ r. r ≡ found (J.tests query.now.judge.now)
         (scope_of query.now.blocks.now) label.now (ends_at (option_copied function.entry)) (record {
           conditions = given.now.conditions;
+          nones = given.now.nones;
           term = term_of term.now;
         })) }
     ensures spent { Spends (use_tried (J.tests query.now.judge.now)
         (scope_of query.now.blocks.now) label.now (ends_at (option_copied function.entry)) (record {
           conditions = given.now.conditions;
+          nones = given.now.nones;
           term = term_of term.now;
         })) budget.old budget.new result }
 {

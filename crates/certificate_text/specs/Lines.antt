@@ -21,7 +21,7 @@ use Rattle.constraint_spec.specs.Certificate.{Certificate}
 
 -- for each link, the variables of its chain
 abbrev pub variables_of_links : List PlacedLink → List (List Variable)
-variables_of_links links = map (λ k. variables_of k.conditions) links
+variables_of_links links = map (λ k. variables_of k.conditions k.nones) links
 
 -- no variables, if there is no such link
 abbrev pub or_none : Option (List Variable) → List Variable

@@ -12,7 +12,7 @@ use crate::asked::{ends, gathered};
 use crate::memo::Memo;
 use crate::recall::{template_once, term_once};
 use asker::Asker;
-use page_spec::Outcome;
+use page_spec::{Outcome, PageName};
 use query_blocks::QueryBlocks;
 use render::render;
 use sd_value::{NoMemory, Str, Term, Value};
@@ -182,24 +182,28 @@ impl<'q, A: Asker> Pages for Click<'q, A> {
 
     /// What asking for the page gives. Whatever it gives, the asker has handed out at most the page's weight for it, and
     /// nothing of what was asked is kept.
-    fn page(&mut self, alloc: Global, term: &Term) -> Result<Outcome, NoMemory>
+    fn page(&mut self, alloc: Global, page: &PageName) -> Result<Outcome, NoMemory>
         requires own { ⟦<Click<'q, A> as Pages>⟧.Own self.old }
         ensures own { ⟦<Click<'q, A> as Pages>⟧.Own self.new }
         ensures fixed { ⟦<Click<'q, A> as Pages>⟧.fixed self.new
             ≡ ⟦<Click<'q, A> as Pages>⟧.fixed self.old }
         ensures outcome { IfOk result
             (IsOutcome (page_site (⟦<Click<'q, A> as Pages>⟧.fixed self.old))
-            (⟦<Click<'q, A> as Pages>⟧.fixed self.old).templates term.now) }
+            (⟦<Click<'q, A> as Pages>⟧.fixed self.old).templates page.now) }
         ensures weight { let f = ⟦<Click<'q, A> as Pages>⟧.fixed self.old in
-            ((n : ℕ) × IsAtMostWeight f.graph f.scope f.templates term.now n
+            ((n : ℕ) × IsAtMostWeight f.graph f.scope f.templates page.now n
             × (⟦<Click<'q, A> as Given>⟧.given self.new
             ≤ ⟦<Click<'q, A> as Given>⟧.given self.old + n)) }
     {
         self.start = self.asker.given();
         self.memo = Memo::new(alloc);
         let templates = self.templates;
-        let outcome = render(alloc, self, templates, term);
+        let outcome = render(alloc, self, templates, page);
         self.memo = Memo::new(alloc);
         outcome
+    }
+
+    fn template_file(&self) -> &Templates {
+        self.templates
     }
 }

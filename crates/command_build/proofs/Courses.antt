@@ -84,7 +84,7 @@ module _ (s : Inputs) (folder : List ℕ) (contents now : Option FileMap) (same 
 -- after the reads
 module _ (command : BuildCommand) (stream : Stream) (contents : Option FileMap) (reached : Status) (a b c : List Happening) where
   abbrev Paths : List (List ℕ)
-  Paths = input_paths (data_paths command.sources command.over) command.query command.templates
+  Paths = input_paths (data_paths command.sources command.over) command.query command.templates.path
 
   abbrev Ended : Result Inputs Fault → FileMap → Type 0
   Ended result map = InputsEnd map command.sources command.over command.query command.templates result

@@ -63,7 +63,7 @@ module _ (command : BuildCommand) (before after : Host) where
   Ended = InputsEnd before.files command.sources command.over command.query command.templates
 
   abbrev Paths : List (List ℕ)
-  Paths = input_paths (data_paths command.sources command.over) command.query command.templates
+  Paths = input_paths (data_paths command.sources command.over) command.query command.templates.path
 
   decides : Decides Ended
   decides = inputs_decide before.files command.sources command.over command.query command.templates

@@ -1,8 +1,8 @@
 -- What happens in a build, in its order: the inputs are read; the files of the site are written; and, where all of them were,
 -- their number is put.
 use Rattle.std.specs.Prelude.{◌≡◌, ◌⊎◌, ℕ, List, [], ◌∷◌, ◌++◌, length, Option, Result, Ok, Err, IfOk}
-use Rattle.sd_value.specs.declared.Term.{Term}
-use Rattle.sd_value.specs.Order.{term_cmp}
+use Rattle.page_spec.specs.declared.PageName.{PageName}
+use Rattle.page_spec.specs.PageNames.{page_cmp}
 use Rattle.sd_value.specs.Ascending.{ListsExactly}
 use Rattle.edge_io.specs.Files.{FileMap}
 use Rattle.happenings.specs.Happening.{Happening, Put, PutFailed}
@@ -27,8 +27,8 @@ use Rattle.command_build.specs.Ends.{build_text, written_end, stop_status}
 -- where what was in the files is told, was kept.
 pub record SiteWritten (s : Inputs) (folder : List ℕ) (contents : Option FileMap)
     (end : Result (List ℕ) Stop) (part : List Happening) : Type 0 where
-  pub pages : List Term
-  pub are_pages : ListsExactly term_cmp (IsPresent (site_at s) s.templates) pages
+  pub pages : List PageName
+  pub are_pages : ListsExactly page_cmp (IsPresent (site_at s) s.templates) pages
   pub writes : SiteWrites (site_at s) s.templates folder pages (root_function s.query) part
       (written_end end)
   pub spare : ForSome contents (λ map. SpareEqual map part)
@@ -74,7 +74,7 @@ module _ (command : BuildCommand) (stream : Stream) (contents : Option FileMap) 
     pub others : List Happening
     pub part_is : part ≡ reads ++ others
     pub read : Reads
-        (input_paths (data_paths command.sources command.over) command.query command.templates)
+        (input_paths (data_paths command.sources command.over) command.query command.templates.path)
         [] reads contents inputs
         (λ map. InputsEnd map command.sources command.over command.query command.templates
         inputs)

@@ -3,8 +3,8 @@ use Rattle.std.specs.Prelude.{◌≡◌, ◌⊎◌, ℕ, List, ◌++◌, length,
 use Rattle.std.specs.Prelude.{IfOk, ⊤}
 use Rattle.std.specs.Option.{ForSome}
 use Rattle.std.specs.Fmt.{decimal}
-use Rattle.sd_value.specs.declared.Term.{Term}
-use Rattle.sd_value.specs.Order.{term_cmp}
+use Rattle.page_spec.specs.declared.PageName.{PageName}
+use Rattle.page_spec.specs.PageNames.{page_cmp}
 use Rattle.sd_value.specs.Ascending.{ListsExactly}
 use Rattle.edge_io.specs.Files.{FileMap}
 use Rattle.edge_io.specs.Sink.{Gains, GainsPart}
@@ -35,8 +35,8 @@ written_end (Err stop) = Err stop
 -- the site's pages, ascending, were written so, and their number is what is printed
 pub record IsBuilt (s : Inputs) (folder : List ℕ) (old new : FileMap)
     (end : Result (List ℕ) Stop) : Type 0 where
-  pub pages : List Term
-  pub are_pages : ListsExactly term_cmp (IsPresent (site_at s) s.templates) pages
+  pub pages : List PageName
+  pub are_pages : ListsExactly page_cmp (IsPresent (site_at s) s.templates) pages
   pub files : SiteEnds (site_at s) s.templates folder pages (root_function s.query) old new
       (written_end end)
   pub told : IfOk end (λ text. text ≡ build_text (length pages))
@@ -62,9 +62,9 @@ IsRefused old new command reason =
 
 -- the path is that of one of the files, under the folder, of the site of these inputs
 pub record IsSiteFile (s : Inputs) (folder path : List ℕ) : Type 0 where
-  pub pages : List Term
-  pub are_pages : ListsExactly term_cmp (IsPresent (site_at s) s.templates) pages
-  pub is_path : IsSitePath folder pages (root_function s.query) path
+  pub pages : List PageName
+  pub are_pages : ListsExactly page_cmp (IsPresent (site_at s) s.templates) pages
+  pub is_path : IsSitePath s.templates folder pages (root_function s.query) path
 
 -- the path is that of one of the files of the site of these inputs, and its count of failed writes rose
 abbrev pub SiteRose
@@ -100,8 +100,8 @@ BuildEnds command before after status.Ok =
     × Gains before.output after.output text
 BuildEnds command before after status.WriteFault = IsPartlyPut command before after
 BuildEnds command before after (status.FileFault path) = IsUnwritten command before after path
-BuildEnds command before after (status.PageFault term kind) =
-    Builds before.files after.files command (Err (stop.Faulty term kind))
+BuildEnds command before after (status.PageFault page kind) =
+    Builds before.files after.files command (Err (stop.Faulty page kind))
 BuildEnds command before after status.NoMemory =
     ((after.files ≡ before.files) ⊎ Builds before.files after.files command (Err stop.NoMemory))
     × (after.output ≡ before.output)
@@ -118,6 +118,6 @@ BuildEnds command before after status.TurnsSpent = ⊥
 
 -- the status of a build that stops so
 abbrev pub stop_status : Stop → Status
-stop_status (stop.Faulty term kind) = status.PageFault term kind
+stop_status (stop.Faulty page kind) = status.PageFault page kind
 stop_status (stop.Unwritten path) = status.FileFault path
 stop_status stop.NoMemory = status.NoMemory

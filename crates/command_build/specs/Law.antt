@@ -1,6 +1,6 @@
 -- A build ends well, unless it is out of memory, where its inputs are accepted and nothing outside fails.
 use Rattle.std.specs.Prelude.{ℕ, List}
-use Rattle.sd_value.specs.declared.Term.{Term}
+use Rattle.page_spec.specs.declared.PageName.{PageName}
 use Rattle.page_spec.specs.Page.{IsPresent}
 use Rattle.files_spec.specs.Files.{IsPageText}
 use Rattle.run_report.specs.declared.status.Status.{Status}
@@ -17,7 +17,7 @@ use Rattle.command_build.specs.Ends.{BuildEnds, SiteRose}
 -- each page has a text, and its file a name of no more bytes than a file's name may have
 abbrev pub AllCanBeWritten : Inputs → Type 0
 AllCanBeWritten s =
-    (t : Term) → IsPresent (site_at s) s.templates t
+    (t : PageName) → IsPresent (site_at s) s.templates t
     → (text : List ℕ) × IsPageText (site_at s) s.templates t text
 
 module _ (command : BuildCommand) (before after : Host) (reached : Status) where
@@ -38,9 +38,9 @@ module _ (command : BuildCommand) (before after : Host) (reached : Status) where
   BuildEndsWell =
       BuildEnds command before after reached
       → ReadRose
-      (input_paths (data_paths command.sources command.over) command.query command.templates)
+      (input_paths (data_paths command.sources command.over) command.query command.templates.path)
       before.failed_reads after.failed_reads reached
       → AllRead
-      (input_paths (data_paths command.sources command.over) command.query command.templates)
+      (input_paths (data_paths command.sources command.over) command.query command.templates.path)
       before after
       → BuildFollows

@@ -1,6 +1,6 @@
 // The laws of the command: how a build ends that nothing outside fails, and what a second build writes.
 ghost use Rattle.std.specs.Prelude.{ℕ, List, Option};
-ghost use Rattle.sd_value.specs.declared.Term.{Term as AnyTerm};
+ghost use Rattle.page_spec.specs.declared.PageName.{PageName};
 ghost use Rattle.run_report.specs.declared.status.Status.{Status};
 ghost use Rattle.command_spec.specs.declared.BuildCommand.{BuildCommand};
 ghost use Rattle.files_spec.specs.Standing.{StandingStays, WrittenStands};
@@ -17,13 +17,13 @@ pub fn builds_end_well()
 
 /// Of a site whose files have their texts already, nothing is written.
 pub fn standing_files_stay()
-    ensures { (s : Inputs) (folder : List ℕ) (terms : List AnyTerm) (root : Option (List ℕ))
+    ensures { (s : Inputs) (folder : List ℕ) (terms : List PageName) (root : Option (List ℕ))
         → StandingStays (site_at s) s.templates folder terms root }
 {}
 
 /// After a whole site is written each of its files has its text, if no two pages have one path: so a second build writes
 /// nothing.
 pub fn written_files_stand()
-    ensures { (s : Inputs) (folder : List ℕ) (terms : List AnyTerm) (root : Option (List ℕ))
+    ensures { (s : Inputs) (folder : List ℕ) (terms : List PageName) (root : Option (List ℕ))
         → WrittenStands (site_at s) s.templates folder terms root }
 {}

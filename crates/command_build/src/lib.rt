@@ -64,10 +64,10 @@ fn write_built<F: Files>(
     let asker = StoreAsker::of(store);
     let mut whole = Whole::of(alloc, asker, &scopes, &inputs.templates)?;
     let pages = whole.pages(alloc)?;
-    let terms = pages.as_slice();
-    let line = pages_line(alloc, terms.len())?;
+    let names = pages.as_slice();
+    let line = pages_line(alloc, names.len())?;
     let root = root_of(&scopes);
-    match write_site(alloc, files, &mut whole, folder, terms, root) {
+    match write_site(alloc, files, &mut whole, folder, names, root) {
         Ok(()) => Ok(line),
         Err(stop) => Err(stop),
     }
@@ -114,7 +114,7 @@ fn status_of_stop(stop: Stop) -> Status
     ensures { result ≡ stop_status stop }
 {
     match stop {
-        Stop::Faulty { term, kind } => Status::PageFault { term, kind },
+        Stop::Faulty { page, kind } => Status::PageFault { page, kind },
         Stop::Unwritten { path } => Status::FileFault { path },
         Stop::NoMemory => Status::NoMemory,
     }
@@ -141,7 +141,7 @@ pub fn build<L: Trace, F: Files<Log = L>, O: Sink<Log = L>>(
     ensures no_wire { result ≡ Status.WireFault → ⊥ }
     ensures read_cause { ReadRose
         (input_paths (data_paths command.now.sources command.now.over)
-        command.now.query command.now.templates)
+        command.now.query command.now.templates.path)
         (F.failed_reads files.old) (F.failed_reads files.new) result }
     ensures write_cause { result ≡ Status.WriteFault → Rose (O.failed out.old) (O.failed out.new) }
     ensures file_cause { (path : List ℕ) → result ≡ Status.FileFault path

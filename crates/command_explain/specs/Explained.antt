@@ -27,7 +27,7 @@ AreExplained G version [] (b ∷ bodies) text = ⊥
 AreExplained G version (path ∷ paths) [] text = ⊥
 AreExplained G version (path ∷ paths) (b ∷ bodies) text =
     (front : List ℕ) × (back : List ℕ)
-    × AppendsBlock G path (chain_of version b.conditions) [] front
+    × AppendsBlock G path (chain_of version b.conditions b.nones) [] front
     × AreExplained G version paths bodies back × (text ≡ front ++ back)
 
 -- each block in the text's order, with the conditions of all blocks round it before its own

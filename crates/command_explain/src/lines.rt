@@ -2,12 +2,12 @@
 
 ghost use Rattle.std.specs.Prelude.{◌≡◌, ◌++◌, IfOk};
 ghost use Rattle.std.specs.List.{flat_map};
-ghost use Rattle.command_explain.specs.Lines.{condition_at, variable_at, cost_text, step_text};
+ghost use Rattle.command_explain.specs.Lines.{condition_at, none_at, variable_at, cost_text, step_text};
 
 use plan_spec::PlanStep;
 use sd_value::NoMemory;
 use struql_ast::Chain;
-use struql_print::print_condition;
+use struql_print::{print_condition, print_none};
 use token_writer::{put, put_number};
 
 /// Appends the cost of a step, and the end of its line.
@@ -20,11 +20,21 @@ fn put_cost(cost: u128, out: &mut Vec<u8>) -> Result<(), NoMemory>
 }
 
 /// Appends the condition of that number. A plan's steps name conditions of its chain alone.
-fn put_condition(chain: &Chain, number: u32, out: &mut Vec<u8>) -> Result<(), NoMemory>
+fn put_condition(chain: &Chain, number: usize, out: &mut Vec<u8>) -> Result<(), NoMemory>
     ensures { IfOk result (λ _. out.new.items ≡ out.old.items ++ condition_at chain.now number) }
 {
-    match chain.conditions().get(number as usize) {
+    match chain.conditions().get(number) {
         Some(condition) => print_condition(chain.version(), condition, out),
+        None => put_none(chain, number - chain.conditions().len(), out),
+    }
+}
+
+/// Appends the NONE of that number. NONEs are numbered after the other conditions.
+fn put_none(chain: &Chain, number: usize, out: &mut Vec<u8>) -> Result<(), NoMemory>
+    ensures { IfOk result (λ _. out.new.items ≡ out.old.items ++ none_at chain.now number) }
+{
+    match chain.nones().get(number) {
+        Some(none) => print_none(chain.version(), none, out),
         None => Ok(()),
     }
 }

@@ -15,11 +15,12 @@ name_of n =
     if n == 146 then codes "NeverReached" else (
     if n == 147 then codes "Unbounded" else (
     if n == 148 then codes "NoRow" else (
+    if n == 155 then codes "NoValue" else (
     if n == 149 then codes "MisspelledTag" else (
     if n == 150 then codes "ShownRaw" else (
     if n == 156 then codes "OnlyCollected" else (
     if n == 157 then codes "UnsafePlace" else (
-    if n == 158 then codes "ActiveAddress" else codes ""))))))))))))
+    if n == 158 then codes "ActiveAddress" else codes "")))))))))))))
 
 -- the word before a note
 abbrev pub mark_of : ℕ → List ℕ

@@ -21,6 +21,7 @@ fn name_of(number: u32) -> &'static [u8]
         146 => b"NeverReached",
         147 => b"Unbounded",
         148 => b"NoRow",
+        155 => b"NoValue",
         149 => b"MisspelledTag",
         150 => b"ShownRaw",
         156 => b"OnlyCollected",

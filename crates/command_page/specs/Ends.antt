@@ -1,9 +1,10 @@
 -- The command `page`: the text of the page at an address.
 use Rattle.std.specs.Prelude.{◌≡◌, ◌⊎◌, ℕ, List, Result, Ok, Err}
-use Rattle.sd_value.specs.declared.Term.{Term}
+use Rattle.tmpl.specs.Body.{TemplateFile}
+use Rattle.page_spec.specs.declared.PageName.{PageName}
+use Rattle.page_spec.specs.Addresses.{page_address, told}
 use Rattle.edge_io.specs.Files.{FileMap}
-use Rattle.site_spec.specs.Root.{root_function}
-use Rattle.page_spec.specs.Address.{TermOf}
+use Rattle.page_spec.specs.Address.{PageOf}
 use Rattle.page_spec.specs.Page.{IsOutcome}
 use Rattle.page_spec.specs.declared.Outcome.{Outcome}
 use Rattle.page_spec.specs.declared.Outcome.TheVariants as outcome
@@ -14,31 +15,31 @@ use Rattle.site_inputs.specs.declared.fault.Fault.TheVariants.{Faulty, NotFound,
 use Rattle.site_inputs.specs.Runs.{Then}
 use Rattle.site_inputs.specs.Sites.{Inputs, InputsEnd, site_at}
 
--- what an outcome of a term's page is answered
-abbrev pub answer_of : Term → Outcome → Result (List ℕ) Fault
-answer_of t (outcome.Page text) = Ok text
-answer_of t outcome.Missing = Err NotFound
-answer_of t (outcome.Cyclic value) = Err (Faulty t (Cyclic value))
-answer_of t outcome.TooLong = Err (Faulty t TooLong)
+-- what an outcome of a page is answered
+abbrev pub answer_of : TemplateFile → PageName → Outcome → Result (List ℕ) Fault
+answer_of f p (outcome.Page text) = Ok text
+answer_of f p outcome.Missing = Err NotFound
+answer_of f p (outcome.Cyclic value) = Err (Faulty (page_address f p) (Cyclic (told f value)))
+answer_of f p outcome.TooLong = Err (Faulty (page_address f p) TooLong)
 
--- the term that the address names has this answer
+-- the page that the address names has this answer
 pub record IsPageAnswer (s : Inputs) (address : List ℕ) (answer : Result (List ℕ) Fault) : Type 0 where
-  pub term : Term
-  pub named : TermOf (root_function s.query) address term
+  pub page : PageName
+  pub named : PageOf s.templates address page
   pub its : Outcome
-  pub is_its : IsOutcome (site_at s) s.templates term its
-  pub is : answer ≡ answer_of term its
+  pub is_its : IsOutcome (site_at s) s.templates page its
+  pub is : answer ≡ answer_of s.templates page its
 
--- the address names no term
-pub record IsNoTerm (s : Inputs) (address : List ℕ) (answer : Result (List ℕ) Fault) : Type 0 where
-  pub none : (t : Term) → TermOf (root_function s.query) address t → ⊥
+-- the address names no page
+pub record IsNoPage (s : Inputs) (address : List ℕ) (answer : Result (List ℕ) Fault) : Type 0 where
+  pub none : (p : PageName) → PageOf s.templates address p → ⊥
   pub is : answer ≡ Err NotFound
 
--- How a page ends: by the outcome of its term in the whole site, not found where the address names none, or because memory ran
+-- How a page ends: by its outcome in the whole site, not found where the address names none, or because memory ran
 -- out.
 abbrev pub PageTaken : Inputs → List ℕ → Result (List ℕ) Fault → Type 0
 PageTaken s address answer =
-    IsPageAnswer s address answer ⊎ (IsNoTerm s address answer ⊎ (answer ≡ Err NoMemory))
+    IsPageAnswer s address answer ⊎ (IsNoPage s address answer ⊎ (answer ≡ Err NoMemory))
 
 -- How the command ends: the inputs are read, and then the page is taken from their site.
 abbrev pub PageEnds : FileMap → PageCommand → Result (List ℕ) Fault → Type 0

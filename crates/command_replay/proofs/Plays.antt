@@ -22,7 +22,7 @@ use Rattle.command_replay.specs.Scripts.{Scripted}
 use Rattle.command_replay.specs.Ends.{nothing_sent, ReportsOpened, IsFresh, is_change, IsReplayed}
 
 pub of_script : (command : ReplayCommand) (path : List ℕ) → Contains (command.script ∷ []) path → Contains (replay_paths command) path
-of_script command path h = Contains-append_right (input_paths (data_paths command.sources command.over) command.query command.templates) (command.script ∷ []) path h
+of_script command path h = Contains-append_right (input_paths (data_paths command.sources command.over) command.query command.templates.path) (command.script ∷ []) path h
 
 new_account : (entry : Option Sent) → IfSome entry IsNew → IfSome (account_of entry) (λ account. account ≡ nothing_sent)
 new_account None new = tt

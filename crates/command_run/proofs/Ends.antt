@@ -52,11 +52,11 @@ report_read_rose given c answer old new before now status is h cause =
     subst (λ (d : Command). ReadRose (inputs_of_command d) before now status) (sym is) (answer_read_rose (λ (r : Report). r) (inputs_of_report c) answer old new before now status h cause)
 
 pub build_read_rose : (given : Command) (c : BuildCommand) (before now : List ℕ → ℕ) (status : Status) → given ≡ command.Build c
-    → ReadRose (input_paths (data_paths c.sources c.over) c.query c.templates) before now status → ReadRose (inputs_of_command given) before now status
+    → ReadRose (input_paths (data_paths c.sources c.over) c.query c.templates.path) before now status → ReadRose (inputs_of_command given) before now status
 build_read_rose given c before now status is h = subst (λ (d : Command). ReadRose (inputs_of_command d) before now status) (sym is) h
 
 pub serve_read_rose : (given : Command) (c : ServeCommand) (before now : List ℕ → ℕ) (status : Status) → given ≡ command.Serve c
-    → ReadRose (input_paths (data_paths c.sources c.over) c.query c.templates) before now status → ReadRose (inputs_of_command given) before now status
+    → ReadRose (input_paths (data_paths c.sources c.over) c.query c.templates.path) before now status → ReadRose (inputs_of_command given) before now status
 serve_read_rose given c before now status is h = subst (λ (d : Command). ReadRose (inputs_of_command d) before now status) (sym is) h
 
 pub replay_read_rose : (given : Command) (c : ReplayCommand) (before now : List ℕ → ℕ) (status : Status) → given ≡ command.Replay c

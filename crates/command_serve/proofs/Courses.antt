@@ -129,7 +129,7 @@ module _ (s : Inputs) (stream : Stream) (options : ServeOptions) (a b c : List H
 -- behind the reads
 module _ (command : ServeCommand) (stream : Stream) (contents : Option FileMap) (before after : WireReport) (reached : Status) (a b c : List Happening) where
   abbrev Paths : List (List ℕ)
-  Paths = input_paths (data_paths command.sources command.over) command.query command.templates
+  Paths = input_paths (data_paths command.sources command.over) command.query command.templates.path
 
   abbrev Ended : Result Inputs Fault → FileMap → Type 0
   Ended result map = InputsEnd map command.sources command.over command.query command.templates result

@@ -23,7 +23,7 @@ module _ (command : ServeCommand) (before after : Outside) where
   Ended = InputsEnd before.host.files command.sources command.over command.query command.templates
 
   abbrev Paths : List (List ℕ)
-  Paths = input_paths (data_paths command.sources command.over) command.query command.templates
+  Paths = input_paths (data_paths command.sources command.over) command.query command.templates.path
 
   decides : Decides Ended
   decides = inputs_decide before.host.files command.sources command.over command.query command.templates

@@ -117,7 +117,7 @@ module _ (command : ServeCommand) (stream : Stream) (contents : Option FileMap)
     pub others : List Happening
     pub part_is : part ≡ reads ++ others
     pub read : Reads
-        (input_paths (data_paths command.sources command.over) command.query command.templates)
+        (input_paths (data_paths command.sources command.over) command.query command.templates.path)
         [] reads contents inputs
         (λ map. InputsEnd map command.sources command.over command.query command.templates
         inputs)

@@ -36,11 +36,11 @@ module _ (command : ServeCommand) (before after : Outside) (reached : Status) wh
   ServingEndsWell =
       ServeEnds command before after reached
       → ReadRose
-      (input_paths (data_paths command.sources command.over) command.query command.templates)
+      (input_paths (data_paths command.sources command.over) command.query command.templates.path)
       before.host.failed_reads after.host.failed_reads reached
       → (reached ≡ status.WriteFault → PutsRose before.host after.host)
       → (reached ≡ status.WireFault → EventsRose before.wire after.wire)
       → AllRead
-      (input_paths (data_paths command.sources command.over) command.query command.templates)
+      (input_paths (data_paths command.sources command.over) command.query command.templates.path)
       before.host after.host
       → ServingFollows

@@ -352,7 +352,7 @@ pub fn serve<L: Trace, F: Files<Log = L>, O: Sink<Log = L>, W: Wire<Log = L>>(
     ensures words { result ≡ Status.Usage → ⊥ }
     ensures read_cause { ReadRose
         (input_paths (data_paths command.now.sources command.now.over)
-        command.now.query command.now.templates)
+        command.now.query command.now.templates.path)
         (F.failed_reads files.old) (F.failed_reads files.new) result }
     ensures write_cause { result ≡ Status.WriteFault → Rose (O.failed out.old) (O.failed out.new) }
     ensures wire_cause { result ≡ Status.WireFault

@@ -34,12 +34,12 @@ check_paths query constraints = query ∷ constraints ∷ []
 -- those of `replay`: the inputs of its site, and then the script
 abbrev pub replay_paths : ReplayCommand → List (List ℕ)
 replay_paths command =
-    input_paths (data_paths command.sources command.over) command.query command.templates
+    input_paths (data_paths command.sources command.over) command.query command.templates.path
     ++ (command.script ∷ [])
 
 -- those of a command that is answered by a text
 abbrev pub inputs_of_text : TextCommand → List (List ℕ)
-inputs_of_text (Page c) = input_paths (data_paths c.sources c.over) c.query c.templates
+inputs_of_text (Page c) = input_paths (data_paths c.sources c.over) c.query c.templates.path
 inputs_of_text (Data c) = data_paths c.sources c.over
 inputs_of_text (Explain c) = explain_paths c
 inputs_of_text (Schema c) = c.query ∷ []
@@ -55,8 +55,8 @@ inputs_of_report (Lint c) = input_paths c.sources.paths c.query c.templates
 abbrev pub inputs_of_command : Command → List (List ℕ)
 inputs_of_command (Text c) = inputs_of_text c
 inputs_of_command (Report c) = inputs_of_report c
-inputs_of_command (Build c) = input_paths (data_paths c.sources c.over) c.query c.templates
-inputs_of_command (Serve c) = input_paths (data_paths c.sources c.over) c.query c.templates
+inputs_of_command (Build c) = input_paths (data_paths c.sources c.over) c.query c.templates.path
+inputs_of_command (Serve c) = input_paths (data_paths c.sources c.over) c.query c.templates.path
 inputs_of_command (Replay c) = replay_paths c
 
 -- those of the command that the words give, if any

@@ -5,7 +5,7 @@ use Rattle.std.specs.Option.{option_copied}
 use Rattle.std.specs.Str.{bytes_eq}
 use Rattle.command_spec.specs.declared.numbers.NumberOption.TheVariants.{Port, Connections, Requests}
 use Rattle.command_spec.specs.declared.numbers.NumberOption.TheVariants.{Turns, Cache, CacheBytes, Idle, Stall, OpenAtOnce, Every}
-use Rattle.command_spec.specs.declared.options.TextOption.TheVariants.{Host, Watch, Log, Over}
+use Rattle.command_spec.specs.declared.options.TextOption.TheVariants.{Host, Watch, Log, Over, Base}
 use Rattle.command_spec.specs.declared.options.ValueOption.{ValueOption}
 use Rattle.command_spec.specs.declared.options.ValueOption.TheVariants.{Number, Text}
 use Rattle.command_spec.specs.declared.rows.CommandRow.{CommandRow}
@@ -28,16 +28,21 @@ abbrev pub options_of_serve : List ValueOption
 options_of_serve =
     Number Port ∷ Text Host ∷ Number Connections ∷ Number Requests ∷ Number Turns ∷ Number Cache
     ∷ Number CacheBytes ∷ Number Idle ∷ Number Stall ∷ Number OpenAtOnce ∷ Text Watch ∷ Number Every
-    ∷ Text Log ∷ Text Over ∷ []
+    ∷ Text Log ∷ Text Over ∷ Text Base ∷ []
 
 -- the options of `replay`
 abbrev pub options_of_replay : List ValueOption
 options_of_replay =
-    Text Host ∷ Number Requests ∷ Number Turns ∷ Number Cache ∷ Number CacheBytes ∷ Text Over ∷ []
+    Text Host ∷ Number Requests ∷ Number Turns ∷ Number Cache ∷ Number CacheBytes ∷ Text Over
+    ∷ Text Base ∷ []
 
--- the options of `page`, `build` and `data`
+-- the options of `page` and `build`
 abbrev pub options_of_page : List ValueOption
-options_of_page = Text Over ∷ []
+options_of_page = Text Over ∷ Text Base ∷ []
+
+-- the option of `data`
+abbrev pub options_of_data : List ValueOption
+options_of_data = Text Over ∷ []
 
 -- the row of `page`
 abbrev pub page_row : Row
@@ -56,6 +61,7 @@ page_row = record {
       ++ codes "  ADDRESS          the address of the page, from its first slash on\n"
       ++ codes "  DATA             a data file: data text, CSV, JSON or BibTeX\n"
       ++ codes "  --over FILE      a first query, whose site over the data files is the data\n"
+      ++ codes "  --base BASE      what shown addresses begin with, as /people/, in place of /\n"
       ++ codes "  --lenient        reads CSV, JSON and BibTeX by the lenient rules\n";
 }
 
@@ -76,6 +82,7 @@ build_row = record {
       ++ codes "  DIR              the folder of the files\n"
       ++ codes "  DATA             a data file: data text, CSV, JSON or BibTeX\n"
       ++ codes "  --over FILE      a first query, whose site over the data files is the data\n"
+      ++ codes "  --base BASE      what shown addresses begin with, as /people/, in place of /\n"
       ++ codes "  --durable        waits for each file until it is on the disk\n"
       ++ codes "  --lenient        reads CSV, JSON and BibTeX by the lenient rules\n";
 }
@@ -84,7 +91,7 @@ build_row = record {
 abbrev pub data_row : Row
 data_row = record {
   name = codes "data";
-  options = options_of_page;
+  options = options_of_data;
   flag = None;
   reads_data = true;
   summary =
@@ -200,6 +207,7 @@ serve_row = record {
       ++ codes "  --every N        connections after which it is read, 1 to 4294967296 (1)\n"
       ++ codes "  --log FILE       a file that a line of each reply is added to\n"
       ++ codes "  --over FILE      a first query, whose site over the data files is the data\n"
+      ++ codes "  --base BASE      what shown addresses begin with, as /people/, in place of /\n"
       ++ codes "  --whole          makes the whole site first and takes its pages from there\n"
       ++ codes "  --lenient        reads CSV, JSON and BibTeX by the lenient rules\n";
 }
@@ -226,6 +234,7 @@ replay_row = record {
       ++ codes "  --cache N        pages that are kept, 1 to 4096 (256)\n"
       ++ codes "  --cache-bytes N  bytes of the pages that are kept, 1 to 4294967296 (67108864)\n"
       ++ codes "  --over FILE      a first query, whose site over the data files is the data\n"
+      ++ codes "  --base BASE      what shown addresses begin with, as /people/, in place of /\n"
       ++ codes "  --lenient        reads CSV, JSON and BibTeX by the lenient rules\n";
 }
 

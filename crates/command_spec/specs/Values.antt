@@ -8,7 +8,7 @@ use Rattle.command_spec.specs.declared.numbers.NumberOption.{NumberOption}
 use Rattle.command_spec.specs.declared.numbers.NumberOption.TheVariants.{Port, Connections, Requests, Turns, Cache, CacheBytes}
 use Rattle.command_spec.specs.declared.numbers.NumberOption.TheVariants.{Idle, Stall, OpenAtOnce, Every}
 use Rattle.command_spec.specs.declared.options.TextOption.{TextOption}
-use Rattle.command_spec.specs.declared.options.TextOption.TheVariants.{Host, Watch, Log, Over}
+use Rattle.command_spec.specs.declared.options.TextOption.TheVariants.{Host, Watch, Log, Over, Base}
 use Rattle.command_spec.specs.declared.options.ValueOption.{ValueOption}
 use Rattle.command_spec.specs.declared.options.ValueOption.TheVariants.{Number, Text}
 
@@ -31,6 +31,7 @@ text_name Host = codes "host"
 text_name Watch = codes "watch"
 text_name Log = codes "log"
 text_name Over = codes "over"
+text_name Base = codes "base"
 
 -- the option's name
 abbrev pub option_name : ValueOption → List ℕ

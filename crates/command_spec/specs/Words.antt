@@ -1,12 +1,12 @@
 -- Which words give a command.
-use Rattle.std.specs.Prelude.{ℕ, suc, ◌+◌, ◌==◌, List, [], ◌∷◌, ◌++◌, take, drop, Bool, true, false, ◌&&◌, ◌||◌, not}
+use Rattle.std.specs.Prelude.{ℕ, suc, nat_le, ◌+◌, ◌==◌, List, [], ◌∷◌, ◌++◌, take, drop, Bool, true, false, ◌&&◌, ◌||◌, not}
 use Rattle.std.specs.Prelude.{Option, None, Some, option_map, option_and_then, if◌then◌else◌, codes}
 use Rattle.std.specs.List.{list_all, list_any, slice_split}
 use Rattle.std.specs.Str.{bytes_eq, is_utf8}
 use Rattle.command_spec.specs.Limits.{entry_limit}
 use Rattle.command_spec.specs.declared.numbers.NumberOption.TheVariants.{Port, Connections, Requests}
 use Rattle.command_spec.specs.declared.numbers.NumberOption.TheVariants.{Turns, Cache, CacheBytes, Idle, Stall, OpenAtOnce, Every}
-use Rattle.command_spec.specs.declared.options.TextOption.TheVariants.{Host, Watch, Log, Over}
+use Rattle.command_spec.specs.declared.options.TextOption.TheVariants.{Host, Watch, Log, Over, Base}
 use Rattle.command_spec.specs.declared.options.ValueOption.TheVariants as values
 use Rattle.command_spec.specs.declared.rows.CommandName.{CommandName}
 use Rattle.command_spec.specs.declared.rows.CommandName.TheVariants as names
@@ -37,29 +37,30 @@ is_word word = is_utf8 word && not (is_empty word)
 -- ---- the words of a command that are no options, where its data are read leniently or not
 
 -- the words of `page`, over this first query, if any
-abbrev pub page_command : Bool → Option (List ℕ) → List (List ℕ) → Option Command
-page_command lenient over (query ∷ templates ∷ address ∷ source ∷ sources) =
+abbrev pub page_command : Bool → (base : List ℕ) → Option (List ℕ) → List (List ℕ) → Option Command
+page_command lenient base over (query ∷ templates ∷ address ∷ source ∷ sources) =
     Some (Text (Page (record {
       query = query;
-      templates = templates;
+      templates = record { path = templates; base = base };
       address = address;
       sources = data_files lenient (source ∷ sources);
       over = over;
     })))
-page_command lenient over words = None
+page_command lenient base over words = None
 
 -- the words of `build`, whose flag has it wait for the disk
-abbrev pub build_command : Flags → Option (List ℕ) → List (List ℕ) → Option Command
-build_command flags over (query ∷ templates ∷ folder ∷ source ∷ sources) =
+abbrev pub build_command : Flags → (base : List ℕ) → Option (List ℕ) → List (List ℕ)
+    → Option Command
+build_command flags base over (query ∷ templates ∷ folder ∷ source ∷ sources) =
     Some (Build (record {
       query = query;
-      templates = templates;
+      templates = record { path = templates; base = base };
       folder = folder;
       sources = data_files flags.lenient (source ∷ sources);
       over = over;
       durable = flags.own;
     }))
-build_command flags over words = None
+build_command flags base over words = None
 
 -- the words of `data`
 abbrev pub data_command : Bool → Option (List ℕ) → List (List ℕ) → Option Command
@@ -136,34 +137,65 @@ version_command words = None
 -- the words of `serve`, its options aside
 abbrev pub serve_command
     : ServeOptions → Option WatchOptions → (log : Option (List ℕ)) → (lenient : Bool)
-    → (over : Option (List ℕ)) → List (List ℕ) → Option Command
-serve_command options watch log lenient over (query ∷ templates ∷ source ∷ sources) =
+    → (base : List ℕ) → (over : Option (List ℕ)) → List (List ℕ) → Option Command
+serve_command options watch log lenient base over (query ∷ templates ∷ source ∷ sources) =
     Some (Serve (record {
       query = query;
-      templates = templates;
+      templates = record { path = templates; base = base };
       sources = data_files lenient (source ∷ sources);
       over = over;
       options = options;
       watch = watch;
       log = log;
     }))
-serve_command options watch log lenient over words = None
+serve_command options watch log lenient base over words = None
 
 -- the words of `replay`, its options aside
 abbrev pub replay_command
-    : RunLimits → Bool → Option (List ℕ) → List (List ℕ) → Option Command
-replay_command limits lenient over (query ∷ templates ∷ script ∷ source ∷ sources) =
+    : RunLimits → Bool → (base : List ℕ) → Option (List ℕ) → List (List ℕ) → Option Command
+replay_command limits lenient base over (query ∷ templates ∷ script ∷ source ∷ sources) =
     Some (Replay (record {
       query = query;
-      templates = templates;
+      templates = record { path = templates; base = base };
       script = script;
       sources = data_files lenient (source ∷ sources);
       over = over;
       limits = limits;
     }))
-replay_command limits lenient over words = None
+replay_command limits lenient base over words = None
 
 -- ---- options
+
+-- A-Z, a-z, 0-9, `-` and `_`
+abbrev pub is_plain : ℕ → Bool
+is_plain b =
+    (nat_le 65 b && nat_le b 90) || ((nat_le 97 b && nat_le b 122) ||
+    ((nat_le 48 b && nat_le b 57) || (b == 45 || b == 95)))
+
+-- a segment that an AT of templates may have
+abbrev pub is_segment : List ℕ → Bool
+is_segment segment =
+    not (is_empty segment) && (not (bytes_eq segment (codes "index")) && list_all is_plain segment)
+
+-- segments with slashes between and behind them
+abbrev pub are_segments : List (List ℕ) → Bool
+are_segments [] = false
+are_segments (last ∷ []) = is_empty last
+are_segments (segment ∷ segments) = is_segment segment && are_segments segments
+
+-- a slash, and then segments, perhaps none, with a slash behind each
+abbrev pub is_base : List ℕ → Bool
+is_base [] = false
+is_base (b ∷ bytes) = b == 47 && are_segments (slice_split (λ c. c == 47) bytes)
+
+-- what addresses begin with by the text of `--base`, if that may be; without it `/`
+abbrev pub base_by : Option (List ℕ) → Option (List ℕ)
+base_by None = Some (codes "/")
+base_by (Some text) = if is_base text then Some text else None
+
+-- what addresses begin with
+abbrev pub given_base : Given → Option (List ℕ)
+given_base given = base_by (given (values.Text Base))
 
 -- whether the byte is a comma
 abbrev pub is_comma : ℕ → Bool
@@ -253,18 +285,32 @@ abbrev pub serve_with_words : Flags → Given → List (List ℕ) → Option Com
 serve_with_words flags given words = do
   options ← serve_options flags.own given
   watch ← serve_watch given
-  serve_command options watch (log_file given) flags.lenient (first_query given) words
+  base ← given_base given
+  serve_command options watch (log_file given) flags.lenient base (first_query given) words
 
 -- `replay` with these options and words
 abbrev pub replay_with_words : Flags → Given → List (List ℕ) → Option Command
 replay_with_words flags given words = do
   limits ← run_limits given
-  replay_command limits flags.lenient (first_query given) words
+  base ← given_base given
+  replay_command limits flags.lenient base (first_query given) words
+
+-- the words of `page`, with its options
+abbrev pub page_with_words : Flags → Given → List (List ℕ) → Option Command
+page_with_words flags given words = do
+  base ← given_base given
+  page_command flags.lenient base (first_query given) words
+
+-- the words of `build`, with its options
+abbrev pub build_with_words : Flags → Given → List (List ℕ) → Option Command
+build_with_words flags given words = do
+  base ← given_base given
+  build_command flags base (first_query given) words
 
 -- the command of this name with these flags, options and words
 abbrev pub command_of : CommandName → Flags → Given → List (List ℕ) → Option Command
-command_of names.Page flags given words = page_command flags.lenient (first_query given) words
-command_of names.Build flags given words = build_command flags (first_query given) words
+command_of names.Page flags given words = page_with_words flags given words
+command_of names.Build flags given words = build_with_words flags given words
 command_of names.Data flags given words = data_command flags.lenient (first_query given) words
 command_of names.Explain flags given words = explain_command flags.lenient words
 command_of names.Schema flags given words = schema_command flags.own words

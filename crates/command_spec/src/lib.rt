@@ -73,23 +73,30 @@ impl DataFiles {
     }
 }
 
-/// `page [--lenient] [--over FILE] QUERY TEMPLATES ADDRESS DATA..`: one page is printed.
+/// A file of templates, and what the addresses begin with that they show.
+#[derive(Debug, Drop)]
+pub struct TemplatesFile {
+    pub path: Str,
+    pub base: Str,
+}
+
+/// `page [--lenient] [--base BASE] [--over FILE] QUERY TEMPLATES ADDRESS DATA..`: one page is printed.
 #[derive(Debug, Drop)]
 pub struct PageCommand {
     pub query: Str,
-    pub templates: Str,
+    pub templates: TemplatesFile,
     pub address: Str,
     pub sources: DataFiles,
     /// The file of the first query, if there is one: its site over the data files is the data.
     pub over: Option<Str>,
 }
 
-/// `build [--durable] [--lenient] [--over FILE] QUERY TEMPLATES DIR DATA..`: the whole site is written to files under a
+/// `build [--durable] [--lenient] [--base BASE] [--over FILE] QUERY TEMPLATES DIR DATA..`: the whole site is written to files under a
 /// folder.
 #[derive(Debug, Drop)]
 pub struct BuildCommand {
     pub query: Str,
-    pub templates: Str,
+    pub templates: TemplatesFile,
     pub folder: Str,
     pub sources: DataFiles,
     /// The file of the first query, as for `page`.
@@ -193,11 +200,11 @@ pub struct WatchOptions {
     pub every: u64,
 }
 
-/// `serve [--lenient] [--over FILE] [--whole] QUERY TEMPLATES DATA..`: pages are served over HTTP.
+/// `serve [--lenient] [--base BASE] [--over FILE] [--whole] QUERY TEMPLATES DATA..`: pages are served over HTTP.
 #[derive(Debug, Drop)]
 pub struct ServeCommand {
     pub query: Str,
-    pub templates: Str,
+    pub templates: TemplatesFile,
     pub sources: DataFiles,
     /// The file of the first query, as for `page`.
     pub over: Option<Str>,
@@ -208,11 +215,11 @@ pub struct ServeCommand {
     pub log: Option<Str>,
 }
 
-/// `replay [--lenient] [--over FILE] QUERY TEMPLATES SCRIPT DATA..`: the same over the events of a script.
+/// `replay [--lenient] [--base BASE] [--over FILE] QUERY TEMPLATES SCRIPT DATA..`: the same over the events of a script.
 #[derive(Debug, Drop)]
 pub struct ReplayCommand {
     pub query: Str,
-    pub templates: Str,
+    pub templates: TemplatesFile,
     pub script: Str,
     pub sources: DataFiles,
     /// The file of the first query, as for `page`.

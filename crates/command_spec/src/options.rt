@@ -11,6 +11,7 @@ pub enum TextOption {
     Watch,
     Log,
     Over,
+    Base,
 }
 
 impl TextOption {
@@ -23,6 +24,7 @@ impl TextOption {
             TextOption::Watch => "watch",
             TextOption::Log => "log",
             TextOption::Over => "over",
+            TextOption::Base => "base",
         }
     }
 }

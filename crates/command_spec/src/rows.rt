@@ -51,7 +51,12 @@ pub struct Flags {
 
 const LENIENT: &str = "--lenient";
 
-const PAGE_OPTIONS: &[ValueOption] = &[ValueOption::Text(TextOption::Over)];
+const DATA_OPTIONS: &[ValueOption] = &[ValueOption::Text(TextOption::Over)];
+
+const PAGE_OPTIONS: &[ValueOption] = &[
+    ValueOption::Text(TextOption::Over),
+    ValueOption::Text(TextOption::Base),
+];
 
 const REPLAY_OPTIONS: &[ValueOption] = &[
     ValueOption::Text(TextOption::Host),
@@ -60,6 +65,7 @@ const REPLAY_OPTIONS: &[ValueOption] = &[
     ValueOption::Number(NumberOption::Cache),
     ValueOption::Number(NumberOption::CacheBytes),
     ValueOption::Text(TextOption::Over),
+    ValueOption::Text(TextOption::Base),
 ];
 
 const SERVE_OPTIONS: &[ValueOption] = &[
@@ -77,6 +83,7 @@ const SERVE_OPTIONS: &[ValueOption] = &[
     ValueOption::Number(NumberOption::Every),
     ValueOption::Text(TextOption::Log),
     ValueOption::Text(TextOption::Over),
+    ValueOption::Text(TextOption::Base),
 ];
 
 const PAGE: CommandRow = CommandRow {
@@ -96,6 +103,7 @@ Prints the page of the site that has this address.\n\
 \x20 ADDRESS          the address of the page, from its first slash on\n\
 \x20 DATA             a data file: data text, CSV, JSON or BibTeX\n\
 \x20 --over FILE      a first query, whose site over the data files is the data\n\
+\x20 --base BASE      what shown addresses begin with, as /people/, in place of /\n\
 \x20 --lenient        reads CSV, JSON and BibTeX by the lenient rules\n",
 };
 
@@ -116,13 +124,14 @@ Writes every page of the site to its file, and prints how many there are.\n\
 \x20 DIR              the folder of the files\n\
 \x20 DATA             a data file: data text, CSV, JSON or BibTeX\n\
 \x20 --over FILE      a first query, whose site over the data files is the data\n\
+\x20 --base BASE      what shown addresses begin with, as /people/, in place of /\n\
 \x20 --durable        waits for each file until it is on the disk\n\
 \x20 --lenient        reads CSV, JSON and BibTeX by the lenient rules\n",
 };
 
 const DATA: CommandRow = CommandRow {
     name: "data",
-    options: PAGE_OPTIONS,
+    options: DATA_OPTIONS,
     flag: None,
     reads_data: true,
     summary: b"\
@@ -239,6 +248,7 @@ Serves the pages of the site on 127.0.0.1 over HTTP.\n\
 \x20 --every N        connections after which it is read, 1 to 4294967296 (1)\n\
 \x20 --log FILE       a file that a line of each reply is added to\n\
 \x20 --over FILE      a first query, whose site over the data files is the data\n\
+\x20 --base BASE      what shown addresses begin with, as /people/, in place of /\n\
 \x20 --whole          makes the whole site first and takes its pages from there\n\
 \x20 --lenient        reads CSV, JSON and BibTeX by the lenient rules\n",
 };
@@ -265,6 +275,7 @@ Serves the pages of the site to the connections of a script, and prints the repl
 \x20 --cache N        pages that are kept, 1 to 4096 (256)\n\
 \x20 --cache-bytes N  bytes of the pages that are kept, 1 to 4294967296 (67108864)\n\
 \x20 --over FILE      a first query, whose site over the data files is the data\n\
+\x20 --base BASE      what shown addresses begin with, as /people/, in place of /\n\
 \x20 --lenient        reads CSV, JSON and BibTeX by the lenient rules\n",
 };
 

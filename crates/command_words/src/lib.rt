@@ -8,6 +8,7 @@ ghost use Rattle.clap.specs.Words.{found_of, kind_of, rows_of};
 ghost use Rattle.clap.specs.Walk.{texts};
 ghost use Rattle.command_words.specs.Parsed as parsed;
 ghost use Rattle.command_spec.specs.Options.{is_empty, parts_of};
+ghost use Rattle.command_spec.specs.declared.rows.Flags.{Flags as AnyFlags};
 ghost use Rattle.command_spec.specs.Words as specs;
 ghost use Rattle.command_spec.specs.Ranges.{IsFrom1To, IsInRange, IsWatchInRange, AreLimits, AreWaits, AreServeOptions};
 ghost use Rattle.command_spec.specs.Numbers.{greatest};
@@ -21,8 +22,8 @@ use clap::{ArgMatches, Error};
 use command_spec::{
     BuildCommand, CheckAllCommand, Command, CommandName, DataCommand, DataFiles, ExplainCommand,
     Flags, HelpCommand, HereCommand, LintCommand, NumberOption, PageCommand, ReplayCommand,
-    ReportCommand, RunLimits, SchemaCommand, ServeCommand, ServeOptions, ServeWaits, TextCommand,
-    TextOption, TrialCommand, ValueOption, WatchOptions,
+    ReportCommand, RunLimits, SchemaCommand, ServeCommand, ServeOptions, ServeWaits, TemplatesFile,
+    TextCommand, TextOption, TrialCommand, ValueOption, WatchOptions,
 };
 use flags::take_flag;
 use numbers::{number, number_of, text_in};
@@ -34,14 +35,25 @@ use std::str;
 // The most entries of a trial.
 const MAX_ENTRIES: u64 = 20_000;
 
+/// A file of templates, and what shown addresses begin with.
+fn templates_file(alloc: Global, path: &str, base: Str) -> Result<TemplatesFile, NoMemory>
+    ensures { IfOk result (λ file. file ≡ record { path = path.now; base = base }) }
+{
+    Ok(TemplatesFile {
+        path: Str::new(alloc, path.as_bytes())?,
+        base,
+    })
+}
+
 fn page_command(
     alloc: Global,
     lenient: bool,
+    base: Str,
     over: Option<Str>,
     words: &[&str],
 ) -> Result<Option<Command>, NoMemory>
     ensures exact { IfOk result (λ given. given
-        ≡ specs.page_command lenient over (texts words.now)) }
+        ≡ specs.page_command lenient base over (texts words.now)) }
     ensures ranges { IfOk result (λ given. IfSome given IsInRange) }
 {
     let [query, templates, address, sources @ ..] = words else {
@@ -52,7 +64,7 @@ fn page_command(
     }
     Ok(Some(Command::Text(TextCommand::Page(PageCommand {
         query: Str::new(alloc, query.as_bytes())?,
-        templates: Str::new(alloc, templates.as_bytes())?,
+        templates: templates_file(alloc, templates, base)?,
         address: Str::new(alloc, address.as_bytes())?,
         sources: DataFiles::of(alloc, lenient, sources)?,
         over,
@@ -62,11 +74,12 @@ fn page_command(
 fn build_command(
     alloc: Global,
     flags: Flags,
+    base: Str,
     over: Option<Str>,
     words: &[&str],
 ) -> Result<Option<Command>, NoMemory>
     ensures exact { IfOk result (λ given. given
-        ≡ specs.build_command flags over (texts words.now)) }
+        ≡ specs.build_command flags base over (texts words.now)) }
     ensures ranges { IfOk result (λ given. IfSome given IsInRange) }
 {
     let [query, templates, folder, sources @ ..] = words else {
@@ -77,7 +90,7 @@ fn build_command(
     }
     Ok(Some(Command::Build(BuildCommand {
         query: Str::new(alloc, query.as_bytes())?,
-        templates: Str::new(alloc, templates.as_bytes())?,
+        templates: templates_file(alloc, templates, base)?,
         folder: Str::new(alloc, folder.as_bytes())?,
         sources: DataFiles::of(alloc, flags.lenient, sources)?,
         over,
@@ -398,19 +411,76 @@ fn first_query(alloc: Global, matches: &ArgMatches<'_>) -> Result<Option<Str>, N
     }
 }
 
+/// Whether the byte may be in a segment of addresses.
+fn is_plain(b: u8) -> bool
+    ensures { result ≡ specs.is_plain b }
+{
+    b.is_ascii_uppercase() || b.is_ascii_lowercase() || b.is_ascii_digit() || b == b'-' || b == b'_'
+}
+
+/// Whether the text is a segment that an AT of templates may have.
+fn is_segment(segment: &[u8]) -> bool
+    ensures { result ≡ specs.is_segment segment.now }
+{
+    !segment.is_empty() && segment != b"index".as_slice() && segment.iter().all(|b| is_plain(*b))
+}
+
+/// Whether the text is segments with slashes between and behind them, perhaps none.
+fn are_segments(text: &[u8]) -> bool
+    ensures { result ≡ specs.are_segments (slice_split (λ c. c == 47) text.now) }
+{
+    let mut start = 0;
+    for i in 0..text.len() {
+        if text[i] == b'/' {
+            if !is_segment(&text[start..i]) {
+                return false;
+            }
+            start = i + 1;
+        }
+    }
+    start == text.len()
+}
+
+/// Whether the text is a slash, and then segments, perhaps none, with a slash behind each.
+fn is_base(text: &[u8]) -> bool
+    ensures { result ≡ specs.is_base text.now }
+{
+    match text.split_first() {
+        None => false,
+        Some((first, rest)) => *first == b'/' && are_segments(rest),
+    }
+}
+
+/// What shown addresses begin with, if the text of `--base` may be that.
+fn given_base(alloc: Global, matches: &ArgMatches<'_>) -> Result<Option<Str>, NoMemory>
+    ensures { IfOk result (λ base. base
+        ≡ specs.given_base (parsed.found (rows_of (found_of matches.now)))) }
+{
+    match text_in(ValueOption::Text(TextOption::Base), matches) {
+        Some(text) => {
+            if !is_base(text.as_bytes()) {
+                return Ok(None);
+            }
+            Ok(Some(Str::new(alloc, text.as_bytes())?))
+        }
+        None => Ok(Some(Str::new(alloc, b"/")?)),
+    }
+}
+
 fn serve_command(
     alloc: Global,
     options: ServeOptions,
     watch: Option<WatchOptions>,
     log: Option<Str>,
     lenient: bool,
+    base: Str,
     over: Option<Str>,
     words: &[&str],
 ) -> Result<Option<Command>, NoMemory>
     requires options { AreServeOptions options }
     requires watch { IfSome watch IsWatchInRange }
     ensures exact { IfOk result (λ given. given
-        ≡ specs.serve_command options watch log lenient over (texts words.now)) }
+        ≡ specs.serve_command options watch log lenient base over (texts words.now)) }
     ensures ranges { IfOk result (λ given. IfSome given IsInRange) }
 {
     let [query, templates, sources @ ..] = words else {
@@ -421,7 +491,7 @@ fn serve_command(
     }
     Ok(Some(Command::Serve(ServeCommand {
         query: Str::new(alloc, query.as_bytes())?,
-        templates: Str::new(alloc, templates.as_bytes())?,
+        templates: templates_file(alloc, templates, base)?,
         sources: DataFiles::of(alloc, lenient, sources)?,
         over,
         options,
@@ -434,13 +504,14 @@ fn replay_command(
     alloc: Global,
     limits: RunLimits,
     lenient: bool,
+    base: Str,
     over: Option<Str>,
     words: &[&str],
 ) -> Result<Option<Command>, NoMemory>
     requires { AreLimits limits }
     ensures exact { IfOk result
         (λ given. given
-        ≡ specs.replay_command limits lenient over (texts words.now)) }
+        ≡ specs.replay_command limits lenient base over (texts words.now)) }
     ensures ranges { IfOk result (λ given. IfSome given IsInRange) }
 {
     let [query, templates, script, sources @ ..] = words else {
@@ -451,7 +522,7 @@ fn replay_command(
     }
     Ok(Some(Command::Replay(ReplayCommand {
         query: Str::new(alloc, query.as_bytes())?,
-        templates: Str::new(alloc, templates.as_bytes())?,
+        templates: templates_file(alloc, templates, base)?,
         script: Str::new(alloc, script.as_bytes())?,
         sources: DataFiles::of(alloc, lenient, sources)?,
         over,
@@ -476,8 +547,12 @@ fn serve_with_words(
         return Ok(None);
     };
     let log = log_file(alloc, matches)?;
+    let Some(base) = given_base(alloc, matches)? else {
+        return Ok(None);
+    };
     let over = first_query(alloc, matches)?;
-    serve_command(alloc, options, watch, log, flags.lenient, over, words)
+    let lenient = flags.lenient;
+    serve_command(alloc, options, watch, log, lenient, base, over, words)
 }
 
 fn replay_with_words(
@@ -493,8 +568,46 @@ fn replay_with_words(
     let Some(limits) = run_limits(alloc, matches)? else {
         return Ok(None);
     };
+    let Some(base) = given_base(alloc, matches)? else {
+        return Ok(None);
+    };
     let over = first_query(alloc, matches)?;
-    replay_command(alloc, limits, flags.lenient, over, words)
+    replay_command(alloc, limits, flags.lenient, base, over, words)
+}
+
+fn page_with_words(
+    alloc: Global,
+    lenient: bool,
+    matches: &ArgMatches<'_>,
+    words: &[&str],
+) -> Result<Option<Command>, NoMemory>
+    ensures exact { IfOk result (λ given. (flags : AnyFlags) → flags.lenient ≡ lenient → given
+        ≡ specs.page_with_words flags (parsed.found (rows_of (found_of matches.now)))
+        (texts words.now)) }
+    ensures ranges { IfOk result (λ given. IfSome given IsInRange) }
+{
+    let Some(base) = given_base(alloc, matches)? else {
+        return Ok(None);
+    };
+    let over = first_query(alloc, matches)?;
+    page_command(alloc, lenient, base, over, words)
+}
+
+fn build_with_words(
+    alloc: Global,
+    flags: Flags,
+    matches: &ArgMatches<'_>,
+    words: &[&str],
+) -> Result<Option<Command>, NoMemory>
+    ensures exact { IfOk result (λ given. given ≡ specs.build_with_words flags
+        (parsed.found (rows_of (found_of matches.now))) (texts words.now)) }
+    ensures ranges { IfOk result (λ given. IfSome given IsInRange) }
+{
+    let Some(base) = given_base(alloc, matches)? else {
+        return Ok(None);
+    };
+    let over = first_query(alloc, matches)?;
+    build_command(alloc, flags, base, over, words)
 }
 
 /// The command of this name with these flags, the options of the matches and these words.
@@ -511,8 +624,8 @@ fn command_of(
 {
     let lenient = flags.lenient;
     match name {
-        CommandName::Page => page_command(alloc, lenient, first_query(alloc, matches)?, words),
-        CommandName::Build => build_command(alloc, flags, first_query(alloc, matches)?, words),
+        CommandName::Page => page_with_words(alloc, lenient, matches, words),
+        CommandName::Build => build_with_words(alloc, flags, matches, words),
         CommandName::Data => data_command(alloc, lenient, first_query(alloc, matches)?, words),
         CommandName::Explain => explain_command(alloc, lenient, words),
         CommandName::Schema => schema_command(alloc, flags.own, words),

@@ -11,7 +11,7 @@ use query_blocks::QueryBlocks;
 use sd_graph::{Graph, GraphRefusal, Limits};
 use site_build::Whole;
 use std::alloc::Global;
-use tmpl::Templates;
+use tmpl::{FileParts, Templates};
 
 /// The graph of the site of the query's blocks over the data graph, for which the asker answers. The site is built whole,
 /// once, and each of its pages is then asked for its links by each label.
@@ -30,7 +30,7 @@ pub fn site_data<A: Asker + Drop>(
     requires scoped { AreCheckedBlocks scopes.now.version scopes.now.blocks.items }
     ensures { SiteDataEnds limits graph.now (scope_of scopes.now) result }
 {
-    let templates = Templates::of(Vec::new(alloc), Vec::new(alloc), Vec::new(alloc));
+    let templates = Templates::of(alloc, FileParts::none(alloc))?;
     let mut whole = Whole::of(alloc, asker, scopes, &templates)?;
     let all_terms = whole.terms(alloc)?;
     let all_labels = whole.link_labels(alloc)?;

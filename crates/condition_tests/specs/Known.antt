@@ -1,7 +1,10 @@
 -- What is known of a row: a value, or nothing yet, for each variable.
-use Rattle.std.specs.Prelude.{◌≡◌, ℕ, List, [], ◌∷◌, length, Option, None, Some, Bool, true, false, slice_get, slice_index_or}
+use Rattle.std.specs.Prelude.{◌≡◌, ℕ, List, [], ◌∷◌, length, Option, None, Some, slice_get, slice_index_or}
 use Rattle.sd_value.specs.declared.Value.{Value}
-use Rattle.graph_spec.specs.DataGraph.{DataGraph, IsValueOf, IsLabelValueOf}
+use Rattle.graph_spec.specs.DataGraph.{DataGraph}
+use Rattle.query_spec.specs.declared.Sort.{Sort}
+use Rattle.query_spec.specs.declared.Sort.TheVariants.{Node}
+use Rattle.query_spec.specs.Rows.{IsOfSort}
 
 -- the values that are known, in the variables' order
 abbrev pub known_part : List (Option Value) → List Value
@@ -14,20 +17,19 @@ pub record Agrees (t : List Value) (s : List (Option Value)) : Type 0 where
   pub as_long : length t ≡ length s
   pub same : (k : ℕ) (v : Value) → slice_get s k ≡ Some (Some v) → slice_get t k ≡ Some v
 
--- what a variable may be: an arc variable a label, another one a value of the graph
-abbrev pub IsCandidate : DataGraph → Bool → Value → Type 0
-IsCandidate G true v = IsLabelValueOf G v
-IsCandidate G false v = IsValueOf G v
+-- what a variable of the sort may be
+abbrev pub IsCandidate : DataGraph → Sort → Value → Type 0
+IsCandidate = IsOfSort
 
--- the variable of that number is an arc variable
-abbrev pub is_arc : List Bool → ℕ → Bool
-is_arc arcs k = slice_index_or arcs k false
+-- the sort of the variable of that number
+abbrev pub sort_at : List Sort → ℕ → Sort
+sort_at sorts k = slice_index_or sorts k Node
 
 -- each value of a row may be its variable's
-pub record InDomains (G : DataGraph) (arcs : List Bool) (t : List Value) : Type 0 where
-  pub each : (k : ℕ) (v : Value) → slice_get t k ≡ Some v → IsCandidate G (is_arc arcs k) v
+pub record InDomains (G : DataGraph) (sorts : List Sort) (t : List Value) : Type 0 where
+  pub each : (k : ℕ) (v : Value) → slice_get t k ≡ Some v → IsCandidate G (sort_at sorts k) v
 
 -- each value that is known may be its variable's
-pub record KnownInDomains (G : DataGraph) (arcs : List Bool)
+pub record KnownInDomains (G : DataGraph) (sorts : List Sort)
     (s : List (Option Value)) : Type 0 where
-  pub each : (k : ℕ) (v : Value) → slice_get s k ≡ Some (Some v) → IsCandidate G (is_arc arcs k) v
+  pub each : (k : ℕ) (v : Value) → slice_get s k ≡ Some (Some v) → IsCandidate G (sort_at sorts k) v

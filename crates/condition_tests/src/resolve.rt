@@ -1,8 +1,10 @@
 // Conditions with names, made into goals with numbers.
-ghost use Rattle.std.specs.Prelude.{◌≡◌, ◌≤◌, ℕ, length, map, IfOk, Contains};
+ghost use Rattle.std.specs.Prelude.{◌≡◌, ◌≤◌, ℕ, All, Bool, length, map, IfOk, Contains};
+ghost use Rattle.std.specs.List.{AllZip, flat_map};
 ghost use Rattle.rpe.specs.Language.{positions};
-ghost use Rattle.query_spec.specs.Mentions.{IsDeclared, condition_positions};
-ghost use Rattle.query_spec.specs.Query.{path};
+ghost use Rattle.query_spec.specs.Mentions.{IsDeclared, condition_positions, shared_numbers};
+ghost use Rattle.query_spec.specs.declared.CallSign.{CallSign};
+ghost use Rattle.query_spec.specs.Query.{path, compare, gives, names};
 ghost use Rattle.rpe.specs.Reading.{regex_of};
 ghost use Rattle.struql_ast.specs.Reading.{operand_of, step_of, condition_of};
 ghost use Rattle.condition_tests.specs.Resolved.{IsPlaceOf, IsAtomOf, IsRelationOf, IsReady, IsPlain, StandsFor, step_declared, declared};
@@ -11,11 +13,14 @@ ghost use Rattle.condition_tests.specs.Places.{PlaceInRange, AtomInRange};
 use crate::literal::{Atom, Goal, Literal, Property, Relation, Slot};
 use crate::value_set::ValueSet;
 use automaton::{Automaton, RpeRefusal};
-use query_spec::{Variable, index_of};
+use function_spec::Function;
+use query_parts::is_mentioned;
+use query_spec::{Op, Variable, index_of};
 use rpe::Rpe;
 use sd_value::{NoMemory, copied_list, copy};
 use std::alloc::Global;
 use struql_ast::{Condition, Operand, PathStep};
+use value_texts::{Pattern, TextTest};
 
 // Where the operand's value is in a row.
 fn place_of(alloc: Global, variables: &[Variable], operand: &Operand) -> Result<Slot, NoMemory>
@@ -84,6 +89,67 @@ fn path_of(
     }
 }
 
+fn places_of(
+    alloc: Global,
+    variables: &[Variable],
+    operands: &[Operand],
+) -> Result<Vec<Slot>, NoMemory>
+    requires { All (IsDeclared variables.now) (map operand_of operands.now) }
+    ensures places { IfOk result (λ ps.
+        AllZip (IsPlaceOf variables.now) (map operand_of operands.now) ps.items) }
+    ensures in_range { IfOk result (λ ps. All (PlaceInRange (length variables.now)) ps.items) }
+{
+    let mut places = Vec::new(alloc);
+    for operand in operands {
+        places.push(place_of(alloc, variables, operand)?)?;
+    }
+    Ok(places)
+}
+
+// A comparison, or a regular expression that is read once for all tests.
+fn comparison_of(
+    alloc: Global,
+    variables: &[Variable],
+    left: &Operand,
+    op: Op,
+    right: &Operand,
+) -> Result<Atom, NoMemory>
+    requires left { IsDeclared variables.now (operand_of left.now) }
+    requires right { IsDeclared variables.now (operand_of right.now) }
+    ensures atom { IfOk result (λ a. (version : ℕ)
+        → IsAtomOf version variables.now
+        (compare (operand_of left.now) op (operand_of right.now)) a) }
+    ensures in_range { IfOk result (λ a. AtomInRange (length variables.now) a) }
+{
+    let first = place_of(alloc, variables, left)?;
+    if let (Op::Texts(TextTest::Matches), Operand::Constant(value, _)) = (op, right) {
+        let pattern = Pattern::of(alloc, value)?;
+        return Ok(Atom::One(first, Property::Matches(pattern)));
+    }
+    let last = place_of(alloc, variables, right)?;
+    Ok(Atom::Two(first, Relation::Compare(op), last))
+}
+
+// The atom of a call.
+fn call_of(
+    alloc: Global,
+    variables: &[Variable],
+    left: &Operand,
+    function: Function,
+    args: &[Operand],
+) -> Result<Atom, NoMemory>
+    requires left { IsDeclared variables.now (operand_of left.now) }
+    requires args { All (IsDeclared variables.now) (map operand_of args.now) }
+    ensures atom { IfOk result (λ a. (version : ℕ) (computes : Bool) (sign : CallSign)
+        → IsAtomOf version variables.now
+        (gives computes (operand_of left.now) sign function (map operand_of args.now)) a) }
+    ensures in_range { IfOk result (λ a. AtomInRange (length variables.now) a) }
+{
+    let place = place_of(alloc, variables, left)?;
+    let places = places_of(alloc, variables, args)?;
+    Ok(Atom::Call(place, function, places))
+}
+
 // The atom of a condition without `not`.
 fn atom_of(alloc: Global, variables: &[Variable], condition: &Condition) -> Result<Atom, NoMemory>
     requires names { declared variables.now (condition_of condition.now) }
@@ -109,11 +175,7 @@ fn atom_of(alloc: Global, variables: &[Variable], condition: &Condition) -> Resu
             op,
             right,
             ..
-        } => {
-            let first = place_of(alloc, variables, left)?;
-            let last = place_of(alloc, variables, right)?;
-            Ok(Atom::Two(first, Relation::Compare(*op), last))
-        }
+        } => comparison_of(alloc, variables, left, *op, right),
         Condition::OneOf {
             operand,
             constants,
@@ -127,6 +189,12 @@ fn atom_of(alloc: Global, variables: &[Variable], condition: &Condition) -> Resu
             let slot = index_of(variables, variable);
             Ok(Atom::One(Slot::Variable(slot), Property::Kind(*test)))
         }
+        Condition::Gives {
+            left,
+            function,
+            args,
+            ..
+        } => call_of(alloc, variables, left, *function, args.items()),
         Condition::Not(..) => unreachable!(),
     }
 }
@@ -157,4 +225,22 @@ pub fn goal_of(
             }))
         }
     }
+}
+
+/// The numbers of the variables that the conditions mention, ascending.
+pub fn shared_slots(
+    alloc: Global,
+    variables: &[Variable],
+    conditions: &[Condition],
+) -> Result<Vec<usize>, NoMemory>
+    ensures { IfOk result (λ slots. slots.items
+        ≡ shared_numbers variables.now (flat_map names (map condition_of conditions.now))) }
+{
+    let mut slots = Vec::new(alloc);
+    for slot in 0..variables.len() {
+        if is_mentioned(conditions, &variables[slot].name) {
+            slots.push(slot)?;
+        }
+    }
+    Ok(slots)
 }

@@ -1,16 +1,21 @@
 // Tests of conditions whose variables all have values.
-ghost use Rattle.std.specs.Prelude.{◌≡◌, ◌↔◌, IfOk, IsTrue, Contains, length};
+ghost use Rattle.std.specs.Prelude.{◌≡◌, ◌↔◌, All, IfOk, IsTrue, List, Contains, length};
+ghost use Rattle.sd_value.specs.declared.Value.{Value as Plain};
 ghost use Rattle.query_spec.specs.Holds.{IsEqual, Compares, HasKind};
-ghost use Rattle.condition_tests.specs.Meaning.{Has, HasArc, Relates};
-ghost use Rattle.condition_tests.specs.Places.{AtomInRange, IsGround};
+ghost use Rattle.condition_tests.specs.Known.{Agrees};
+ghost use Rattle.condition_tests.specs.Meaning.{GivesOf, Has, HasArc, Relates};
+ghost use Rattle.condition_tests.specs.Places.{AtomInRange, IsGround, IsWhole, PlaceInRange};
 ghost use Rattle.condition_tests.specs.Places.{Decides};
 
 use crate::compare::{compares, has_kind, is_one_of};
-use crate::literal::{Atom, Property, Relation};
-use crate::place::{known, value_of};
+use crate::literal::{Atom, Property, Relation, Slot};
+use crate::place::{known, known_all, value_of};
+use crate::value_set::is_among;
+use function_spec::Function;
 use sd_value::{Datum, NoMemory, Value};
 use std::alloc::Global;
 use store::Store;
+use text_functions::values;
 
 fn has<S: Store>(
     alloc: Global,
@@ -25,6 +30,10 @@ fn has<S: Store>(
         Property::Member(collection) => Ok(store.is_member(collection, v)),
         Property::OneOf(constants) => Ok(is_one_of(alloc, version, constants, v)?),
         Property::Kind(test) => Ok(has_kind(*test, v)),
+        Property::Matches(pattern) => match pattern {
+            Some(pattern) => pattern.is_in(alloc, v),
+            None => Ok(false),
+        },
     }
 }
 
@@ -56,6 +65,26 @@ fn has_arc<S: Store>(store: &S, u: &Value, label: &Value, v: &Value) -> bool
     }
 }
 
+// Whether the function gives the value of the others.
+fn gives(
+    alloc: Global,
+    function: Function,
+    args: &[Slot],
+    v: &Value,
+    current: &[Option<Value>],
+) -> Result<bool, NoMemory>
+    requires in_range { All (PlaceInRange (length current.now)) args.now }
+    requires ground { All (λ q. IsWhole q current.now) args.now }
+    ensures { IfOk result (λ b. (t : List Plain) → Agrees t current.now
+        → (IsTrue b ↔ GivesOf function args.now t v.now)) }
+{
+    let Some(arguments) = known_all(alloc, args, current)? else {
+        return Ok(false);
+    };
+    let given = values(alloc, function, &arguments)?;
+    Ok(is_among(&given, v))
+}
+
 /// Whether the atom holds, where all its variables have values.
 pub fn test<S: Store>(
     alloc: Global,
@@ -84,6 +113,10 @@ pub fn test<S: Store>(
         ) {
             (Some(u), Some(label), Some(v)) => Ok(has_arc(store, u, label, v)),
             _ => Ok(false),
+        },
+        Atom::Call(left, function, args) => match known(left, current) {
+            Some(v) => gives(alloc, *function, args, v, current),
+            None => Ok(false),
         },
     }
 }

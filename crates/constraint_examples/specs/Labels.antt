@@ -39,6 +39,7 @@ query version = record {
   input = codes "D";
   blocks = block (record {
     conditions = conditions;
+    nones = [];
     creates = term ∷ [];
     links = link ∷ [];
     collects = [];

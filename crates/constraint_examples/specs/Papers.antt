@@ -52,6 +52,7 @@ papers = record site.papers {
 abbrev pub titles : Body
 titles = record {
   conditions = compare (variable site.l) Eq (constant (text (codes "title"))) ∷ [];
+  nones = [];
   creates = [];
   links = paper_link ∷ [];
   collects = [];

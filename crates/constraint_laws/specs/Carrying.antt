@@ -12,10 +12,11 @@ use Rattle.constraint_spec.specs.Checked.{IsBoundTarget}
 
 -- a row of the link's chain under which a bound target is what its renamed form is under the
 -- mention's row
-pub record CarriedRow (G : DataGraph) (version : ℕ) (S : List Condition) (row : List Value)
-    (k : PlacedLink) (ys : List Name) : Type 0 where
+pub record CarriedRow (G : DataGraph) (version : ℕ) (S : List Condition)
+    (nones : List (List Condition)) (row : List Value) (k : PlacedLink) (ys : List Name)
+    : Type 0 where
   pub there : List Value
-  pub is_row : IsRow G (chain_of version k.conditions) there
+  pub is_row : IsRow G (chain_of version k.conditions k.nones) there
   pub targets : (t : Target) (v : Value) → IsBoundTarget k.conditions t
-      → IsTargetUnder (value_in (variables_of S) row) (rename_target (naming k ys) t) v
-      ↔ IsTargetUnder (value_in (variables_of k.conditions) there) t v
+      → IsTargetUnder (value_in (variables_of S nones) row) (rename_target (naming k ys) t) v
+      ↔ IsTargetUnder (value_in (variables_of k.conditions k.nones) there) t v

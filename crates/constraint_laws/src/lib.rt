@@ -33,20 +33,20 @@ pub fn equality_is_an_equivalence()
 /// A condition that conditions entail holds under each of their rows, over every data graph and
 /// under every version, where they mention its variables.
 pub fn entailment_is_sound()
-    ensures { (version : ℕ) (S : List Condition) (c : Condition)
+    ensures { (version : ℕ) (S : List Condition) (nones : List (List Condition)) (c : Condition)
         → IsEntailed version S c → IsFlat c
         → ((x : Name) → Contains (names c) x → Contains (flat_map names S) x)
-        → (G : DataGraph) (row : List Value) → IsRow G (chain_of version S) row
-        → Holds G version c (value_in (variables_of S) row) }
+        → (G : DataGraph) (row : List Value) → IsRow G (chain_of version S nones) row
+        → Holds G version c (value_in (variables_of S nones) row) }
 {}
 
 /// A use carries each row of the mention's chain to a row of the link's chain, under which the
 /// link's ends are what their renamed forms are under the mention's row.
 pub fn a_use_carries_rows()
-    ensures { (version : ℕ) (S : List Condition) (k : PlacedLink) (ys : List Name)
-        → IsUse version S k ys → All IsFlat k.conditions
-        → (G : DataGraph) (row : List Value) → IsRow G (chain_of version S) row
-        → CarriedRow G version S row k ys }
+    ensures { (version : ℕ) (S : List Condition) (nones : List (List Condition)) (k : PlacedLink)
+        (ys : List Name) → IsUse version S nones k ys → All IsFlat k.conditions
+        → (G : DataGraph) (row : List Value) → IsRow G (chain_of version S nones) row
+        → CarriedRow G version S nones row k ys }
 {}
 
 /// What a certificate shows of a checked query, its site over every data graph meets.
@@ -60,7 +60,7 @@ pub fn certificates_hold()
 pub fn schema_numbers_are_links()
     ensures { (q : Query) (e : SchemaEdge) → Contains (schema_edges q) e
         → IsNumbered (links_of (scope_of q)) e.number
-        (record { conditions = e.conditions; link = e.link }) }
+        (record { conditions = e.conditions; nones = e.nones; link = e.link }) }
 {}
 
 /// The pages that a link joins are in the site, so whoever asks a constraint of one site may go by

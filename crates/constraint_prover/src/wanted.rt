@@ -31,7 +31,7 @@ pub fn show<J: Judge>(
     mention: &Mention,
 ) -> Result<Option<MentionProof>, NoMemory>
     requires chain { mention.now.chain.now ≡ chain_of query.now.blocks.now.version
-        mention.now.chain.now.conditions }
+        mention.now.chain.now.conditions mention.now.chain.now.nones }
     requires links { AreLinks query.now.blocks.now query.now.links.now }
     ensures { IfOk result (λ r. r ≡ shown_by (J.tests query.now.judge.now)
         (scope_of query.now.blocks.now) wanted.now (mention_of mention.now)) }

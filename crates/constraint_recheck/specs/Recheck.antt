@@ -1,5 +1,5 @@
 -- Whether a certificate is one.
-use Rattle.std.specs.Prelude.{ℕ, zero, suc, Bool, true, false, not, ◌&&◌, ◌||◌, nat_le, List, [], ◌∷◌, length}
+use Rattle.std.specs.Prelude.{ℕ, zero, suc, Bool, true, false, not, ◌&&◌, ◌||◌, nat_le, List, [], ◌∷◌, length, map}
 use Rattle.std.specs.Prelude.{slice_get, if◌then◌else◌, Option, Some, None}
 use Rattle.std.specs.List.{list_any, list_all}
 use Rattle.sd_value.specs.declared.Datum.TheVariants.{Text}
@@ -7,17 +7,19 @@ use Rattle.sd_value.specs.declared.Value.{Value}
 use Rattle.sd_value.specs.declared.Value.TheVariants.{Data}
 use Rattle.graph_spec.specs.DataGraph.{Name, text}
 use Rattle.query_spec.specs.declared.Op.TheVariants.{Ne}
+use Rattle.query_spec.specs.declared.Sort.{Sort}
+use Rattle.query_spec.specs.declared.Sort.TheVariants.{Node, Arc, Computed}
 use Rattle.query_spec.specs.declared.Variable.{Variable}
 use Rattle.query_spec.specs.Query.{variable, constant, Condition, compare, one_of, SkolemTerm, Target, plain, made, summed}
 use Rattle.query_spec.specs.Query.{LinkLabel, quoted, label_variable}
-use Rattle.query_spec.specs.Mentions.{same_name, variables_of}
+use Rattle.query_spec.specs.Mentions.{same_name, variables_of, own_variables}
 use Rattle.site_spec.specs.Site.{Scope}
 use Rattle.constraint_spec.specs.declared.Constraint.{Constraint}
 use Rattle.constraint_spec.specs.declared.Constraint.TheVariants.{Reachable, Each, Only, Never, One}
 use Rattle.constraint_spec.specs.Placed.{PlacedLink, Mention, links_of, mentions_of}
-use Rattle.constraint_spec.specs.Use.{LinkUse, naming, rename, source_of, target_of}
+use Rattle.constraint_spec.specs.Use.{LinkUse, naming, rename, within_none, source_of, target_of}
 use Rattle.constraint_spec.specs.Certificate.{Certificate, target_names}
-use Rattle.query_parts.specs.Same.{same_operand, same_condition, same_term, same_target}
+use Rattle.query_parts.specs.Same.{same_list, same_operand, same_condition, same_term, same_target}
 use Rattle.constraint_recheck.specs.Entails.{Tests, among, fixes, entails}
 
 -- both lists have one length, and what is side by side passes
@@ -27,10 +29,12 @@ zip_all f [] (y ∷ ys) = false
 zip_all f (x ∷ xs) [] = false
 zip_all f (x ∷ xs) (y ∷ ys) = f x y && zip_all f xs ys
 
--- both are arc variables, or neither
-abbrev pub same_sort : Bool → Bool → Bool
-same_sort true b = b
-same_sort false b = not b
+-- the sorts are the same
+abbrev pub same_sort : Sort → Sort → Bool
+same_sort Node Node = true
+same_sort Arc Arc = true
+same_sort Computed Computed = true
+same_sort s r = false
 
 -- the list has no item
 abbrev pub is_empty : {X : Type 0} → List X → Bool
@@ -81,6 +85,21 @@ abbrev pub is_quoted : Name → LinkLabel → Bool
 is_quoted l (quoted m) = same_name m l
 is_quoted l (label_variable a) = false
 
+-- ---- NONEs
+
+-- the other NONE, of the given chain, is this one of a link's chain with its variables renamed
+abbrev pub is_same_none : List Variable → List Variable → (Name → Name) → List Condition
+    → List Condition → Bool
+is_same_none given variables f none other =
+    zip_all (λ v w. same_sort v.sort w.sort) (own_variables variables none)
+    (own_variables given other)
+    && same_list same_condition (map (rename (within_none given variables f none other)) none) other
+
+-- one of the given NONEs is
+abbrev pub has_none : List Variable → List (List Condition) → List Variable → (Name → Name)
+    → List Condition → Bool
+has_none given nones variables f none = list_any (is_same_none given variables f none) nones
+
 module _ (tests : Tests) (version : ℕ) where
   -- `a in` a list that hasn't the label, nor its twin
   abbrev pub is_other_list : Name → Name → Condition → Bool
@@ -105,14 +124,19 @@ module _ (tests : Tests) (version : ℕ) where
   -- ---- uses
 
   -- one of the variables has the name and the sort
-  abbrev pub is_variable : List Variable → Name → Bool → Bool
-  is_variable variables y arc = list_any (λ v. same_name v.name y && same_sort v.arc arc) variables
+  abbrev pub is_variable : List Variable → Name → Sort → Bool
+  is_variable variables y sort =
+      list_any (λ v. same_name v.name y && same_sort v.sort sort) variables
 
-  -- the names make a use of the link under S
-  abbrev pub is_use : List Condition → PlacedLink → List Name → Bool
-  is_use S k names =
-      zip_all (λ v y. is_variable (variables_of S) y v.arc) (variables_of k.conditions) names
-      && list_all (λ c. entails tests version S (rename (naming k names) c)) k.conditions
+  -- the names make a use of the link under S and these NONEs
+  abbrev pub is_use : List Condition → List (List Condition) → PlacedLink → List Name → Bool
+  is_use S nones k names =
+      zip_all (λ v y. is_variable (variables_of S nones) y v.sort)
+      (variables_of k.conditions k.nones) names
+      && (list_all (λ c. entails tests version S (rename (naming k names) c)) k.conditions
+      && list_all
+      (has_none (variables_of S nones) nones (variables_of k.conditions k.nones) (naming k names))
+      k.nones)
 
 -- exactly one of the links passes, and it is good
 abbrev pub single : (PlacedLink → Bool) → (PlacedLink → Bool) → List PlacedLink → Bool
@@ -132,7 +156,7 @@ module _ (tests : Tests) (q : Scope) where
   abbrev pub use_from : Name → Mention → LinkUse → (PlacedLink → Bool) → Bool
   use_from l m u good =
       on_link (link_at (links_of q) u.link)
-      (λ k. is_use tests q.version m.conditions k u.names
+      (λ k. is_use tests q.version m.conditions m.nones k u.names
       && (is_quoted l k.link.label && (same_target (source_of k u) (made m.term) && good k)))
 
   -- one use alone, from the mention's term
@@ -142,20 +166,21 @@ module _ (tests : Tests) (q : Scope) where
   shows l good m (u ∷ v ∷ uses) = false
 
   -- the uses lead back from the term to the root
-  abbrev pub lead_back : Name → List Condition → SkolemTerm → List LinkUse → Bool
-  lead_back root S t [] = same_term t (record { function = root; args = [] })
-  lead_back root S t (u ∷ uses) =
+  abbrev pub lead_back : Name → List Condition → List (List Condition) → SkolemTerm
+      → List LinkUse → Bool
+  lead_back root S nones t [] = same_term t (record { function = root; args = [] })
+  lead_back root S nones t (u ∷ uses) =
       on_link (link_at (links_of q) u.link)
-      (λ k. is_use tests q.version S k u.names
+      (λ k. is_use tests q.version S nones k u.names
       && (same_target (target_of k u) (made t)
-      && on_made (λ s. lead_back root S s uses) (source_of k u)))
+      && on_made (λ s. lead_back root S nones s uses) (source_of k u)))
 
   -- the uses show that the root reaches the mention's term
   abbrev pub shows_reached : Name → Name → Mention → List LinkUse → Bool
   shows_reached f root m uses =
       nat_le (length uses) (length (links_of q))
       && ((not (same_name f root) || is_empty uses)
-      && lead_back root m.conditions m.term uses)
+      && lead_back root m.conditions m.nones m.term uses)
 
   -- each link of f that may carry l is good
   abbrev pub each_may : Name → Name → (PlacedLink → Bool) → Bool

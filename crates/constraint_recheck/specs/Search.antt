@@ -9,7 +9,7 @@ use Rattle.std.specs.List.{flat_map, list_any, list_all}
 use Rattle.sd_value.specs.Names.{Name, Label}
 use Rattle.rpe.specs.Regex.{Regex}
 use Rattle.query_spec.specs.declared.Variable.{Variable}
-use Rattle.query_spec.specs.Query.{Operand, variable, constant, Condition, SkolemTerm, Target, Link}
+use Rattle.query_spec.specs.Query.{Operand, variable, constant, Condition, Chain, SkolemTerm, Target, Link}
 use Rattle.query_spec.specs.Query.{plain, made, summed}
 use Rattle.query_spec.specs.Mentions.{same_name, operand_names, names, variables_of}
 use Rattle.site_spec.specs.Site.{Scope}
@@ -21,7 +21,7 @@ use Rattle.constraint_spec.specs.Use.{rename_operand, rename, name_for, LinkUse}
 use Rattle.constraint_spec.specs.Certificate.{Certificate}
 use Rattle.query_parts.specs.Same.{same_operand, same_term}
 use Rattle.constraint_recheck.specs.Entails.{Tests, AreTests, AreKnown, entails}
-use Rattle.constraint_recheck.specs.Recheck.{zip_all, same_sort, is_of, is_quoted}
+use Rattle.constraint_recheck.specs.Recheck.{zip_all, same_sort, has_none, is_of, is_quoted}
 use Rattle.constraint_recheck.specs.Recheck.{may_carry, single, determined, each_may}
 use Rattle.constraint_recheck.specs.Options.{first_of, for_each, fold_over, tried_until, tried_over}
 
@@ -77,37 +77,66 @@ abbrev pub mapped : {X : Type 0} → (List Name → Bool) → Variable → List 
     → Variable → X
 mapped test v ys next other w =
     let more = ys ++ w.name ∷ [] in
-    if same_sort w.arc v.arc && test more then next more else other
+    if same_sort w.sort v.sort && test more then next more else other
 
--- the names so far, with one for each variable that is left, under which the test is always passed
-abbrev pub extend : (List Name → Bool) → List Variable → List Variable → List Name
+-- of all names, once each variable has one
+abbrev pub passed_last : (List Name → Bool) → List Name → Option (List Name)
+passed_last last ys = if last ys then Some ys else None
+
+-- the names so far, with one for each variable that is left, under which the test is always passed,
+-- and the last one by all
+abbrev pub extend : (test last : List Name → Bool) → List Variable → List Variable → List Name
     → Option (List Name)
-extend test targets [] ys = Some ys
-extend test targets (v ∷ left) ys =
-    first_of (mapped test v ys (extend test targets left) None) targets
+extend test last targets [] ys = passed_last last ys
+extend test last targets (v ∷ left) ys =
+    first_of (mapped test v ys (extend test last targets left) None) targets
 
 -- how many names it tries
-abbrev pub extend_tried : (List Name → Bool) → List Variable → List Variable → List Name → ℕ
-extend_tried test targets [] ys = 0
-extend_tried test targets (v ∷ left) ys =
-    tried_until (mapped test v ys (extend test targets left) None)
-    (λ w. suc (mapped test v ys (extend_tried test targets left) 0 w)) targets
+abbrev pub extend_tried : (test last : List Name → Bool) → List Variable → List Variable
+    → List Name → ℕ
+extend_tried test last targets [] ys = 0
+extend_tried test last targets (v ∷ left) ys =
+    tried_until (mapped test v ys (extend test last targets left) None)
+    (λ w. suc (mapped test v ys (extend_tried test last targets left) 0 w)) targets
+
+-- what a link is used under: conditions and NONEs
+pub record Given : Type 0 where
+  pub conditions : List Condition
+  pub nones : List (List Condition)
+
+-- its variables, by first mention
+abbrev pub given_variables : Given → List Variable
+given_variables S = variables_of S.conditions S.nones
+
+-- a chain's
+abbrev pub given_of : Chain → Given
+given_of c = record { conditions = c.conditions; nones = c.nones }
+
+-- each of the NONEs over these variables is among those that are given, with its variables renamed
+abbrev pub have_nones : List Variable → List (List Condition) → List Variable
+    → List (List Condition) → List Name → Bool
+have_nones targets given variables nones ys =
+    list_all (has_none targets given variables (name_for variables ys)) nones
+
+-- the same of a link's NONEs
+abbrev pub link_has_nones : Given → PlacedLink → List Name → Bool
+link_has_nones S k =
+    have_nones (given_variables S) S.nones (variables_of k.conditions k.nones) k.nones
 
 -- the names of a use of the link under S with these ends
-abbrev pub find_names : Tests → ℕ → List Condition → PlacedLink → SkolemTerm
-    → Option SkolemTerm → Option (List Name)
+abbrev pub find_names : Tests → ℕ → Given → PlacedLink → SkolemTerm → Option SkolemTerm
+    → Option (List Name)
 find_names tests version S k s t =
-    let variables = variables_of k.conditions in
-    let test = may_go_on variables tests version S k.conditions k.link s t in
-    if test [] then extend test (variables_of S) variables [] else None
+    let variables = variables_of k.conditions k.nones in
+    let test = may_go_on variables tests version S.conditions k.conditions k.link s t in
+    if test [] then extend test (link_has_nones S k) (given_variables S) variables [] else None
 
 -- how many names are tried for it
-abbrev pub names_tried : Tests → ℕ → List Condition → PlacedLink → SkolemTerm
-    → Option SkolemTerm → ℕ
+abbrev pub names_tried : Tests → ℕ → Given → PlacedLink → SkolemTerm → Option SkolemTerm → ℕ
 names_tried tests version S k s t =
-    let variables = variables_of k.conditions in
-    let test = may_go_on variables tests version S k.conditions k.link s t in
-    if test [] then extend_tried test (variables_of S) variables [] else 0
+    let variables = variables_of k.conditions k.nones in
+    let test = may_go_on variables tests version S.conditions k.conditions k.link s t in
+    if test [] then extend_tried test (link_has_nones S k) (given_variables S) variables [] else 0
 
 -- how much is tried at most for one mention
 abbrev pub search_budget : ℕ
@@ -163,7 +192,7 @@ start_at t = record { term = t; uses = [] } ∷ []
 abbrev pub root_term : Name → SkolemTerm
 root_term root = record { function = root; args = [] }
 
-module _ (tests : Tests) (q : Scope) (S : List Condition) where
+module _ (tests : Tests) (q : Scope) (S : Given) where
   -- the source, if there is a use from it by these names
   abbrev pub add_found : Reached → Numbered → List Reached → SkolemTerm
       → Option (List Name) → List Reached
@@ -181,7 +210,7 @@ module _ (tests : Tests) (q : Scope) (S : List Condition) where
   -- all sources of uses of the link that end at the reached term
   abbrev pub add_sources : Reached → List Reached → Numbered → List Reached
   add_sources e seen n =
-      fold_over (add_source e n) seen (source_choices (variables_of S) n.link.link.source)
+      fold_over (add_source e n) seen (source_choices (given_variables S) n.link.link.source)
 
   -- all sources of uses that end at the reached term
   abbrev pub add_links : List Reached → Reached → List Reached
@@ -204,7 +233,7 @@ module _ (tests : Tests) (q : Scope) (S : List Condition) where
   sources_tried e seen n =
       if is_of e.term.function n.link.link.target
       then tried_over (add_source e n) (source_tried e n) seen
-      (source_choices (variables_of S) n.link.link.source)
+      (source_choices (given_variables S) n.link.link.source)
       else 0
 
   -- for all links
@@ -231,6 +260,10 @@ module _ (tests : Tests) (q : Scope) (S : List Condition) where
 
 -- ---- certificates
 
+-- what a mention is under
+abbrev pub given_by : Mention → Given
+given_by m = record { conditions = m.conditions; nones = m.nones }
+
 -- what comes of a link by l that is good, or the other if it isn't one
 abbrev pub if_asked : {X : Type 0} → Label → (PlacedLink → Bool) → (Numbered → X) → X → Numbered → X
 if_asked l good next other n =
@@ -241,7 +274,7 @@ module _ (tests : Tests) (q : Scope) where
   abbrev pub use_by : Mention → Numbered → Option LinkUse
   use_by m n =
       option_map (λ ys. record { link = n.number; names = ys })
-      (find_names tests q.version m.conditions n.link m.term None)
+      (find_names tests q.version (given_by m) n.link m.term None)
 
   -- the first use from the mention's term of a link by l that is good
   abbrev pub find_use : Label → (PlacedLink → Bool) → Mention → Option LinkUse
@@ -252,7 +285,7 @@ module _ (tests : Tests) (q : Scope) where
   abbrev pub use_tried : Label → (PlacedLink → Bool) → Mention → ℕ
   use_tried l good m =
       tried_until (if_asked l good (use_by m) None)
-      (if_asked l good (λ n. names_tried tests q.version m.conditions n.link m.term None) 0)
+      (if_asked l good (λ n. names_tried tests q.version (given_by m) n.link m.term None) 0)
       (numbered_from 1 (links_of q))
 
   -- that use, as a list
@@ -263,14 +296,14 @@ module _ (tests : Tests) (q : Scope) where
   -- how much is tried for uses that show that the root reaches the mention's term
   abbrev pub reached_tried : Name → Name → Mention → ℕ
   reached_tried f root m =
-      if same_name f root then 0 else back_tried tests q m.conditions m.term
+      if same_name f root then 0 else back_tried tests q (given_by m) m.term
 
   -- those uses
   abbrev pub find_reached : Name → Name → Mention → Option (List LinkUse)
   find_reached f root m =
       within_budget (reached_tried f root m)
       (if same_name f root then (if same_term m.term (root_term root) then Some [] else None)
-      else find_back tests q m.conditions root m.term)
+      else find_back tests q (given_by m) root m.term)
 
   -- a certificate of the constraint
   abbrev pub find_certificate : Constraint → Option Certificate

@@ -15,7 +15,7 @@ use sd_value::{NoMemory, Str, Term};
 use site_build::Whole;
 use site_view::SiteView;
 use std::alloc::Global;
-use tmpl::Templates;
+use tmpl::{FileParts, Templates};
 
 // The report of the constraints in the site of the view.
 fn told<V: SiteView>(
@@ -59,7 +59,7 @@ pub fn report_of<A: Asker + Drop>(
     ensures { IfOk result (λ r. IsReport (Meets (A.graph asker) (scope_of scopes.now))
         constraints.now r.text r.passed) }
 {
-    let templates = Templates::of(Vec::new(alloc), Vec::new(alloc), Vec::new(alloc));
+    let templates = Templates::of(alloc, FileParts::none(alloc))?;
     let mut whole = Whole::of(alloc, asker, scopes, &templates)?;
     let all_terms = whole.terms(alloc)?;
     let all_labels = whole.link_labels(alloc)?;

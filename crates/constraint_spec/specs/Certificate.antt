@@ -80,7 +80,7 @@ pub record IsSingle (q : Scope) (f : Name) (l : Label) : Type 0 where
 -- under the mention's conditions the use is one of a link by l from the mention's term
 pub record IsUseFrom (q : Scope) (l : Label) (m : Mention) (u : LinkUse) (k : PlacedLink) : Type 0
   where
-    pub is_use : IsUseOf q m.conditions u k
+    pub is_use : IsUseOf q m.conditions m.nones u k
     pub label : k.link.label ≡ quoted l
     pub source : source_of k u ≡ made m.term
 
@@ -102,11 +102,12 @@ pub record ShowsLinkTo (q : Scope) (l : Label) (h : Name) (m : Mention) (uses : 
 
 -- under S the uses lead back from the term to the root: the first use's link ends at the term, and
 -- each later one's at the term where the one before it starts
-abbrev pub LeadBack : Scope → Name → List Condition → SkolemTerm → List LinkUse → Type 0
-LeadBack q root S t [] = t ≡ record { function = root; args = [] }
-LeadBack q root S t (u ∷ uses) =
-    (k : PlacedLink) × IsUseOf q S u k × (target_of k u ≡ made t)
-    × (s : SkolemTerm) × (source_of k u ≡ made s) × LeadBack q root S s uses
+abbrev pub LeadBack : Scope → Name → List Condition → List (List Condition) → SkolemTerm
+    → List LinkUse → Type 0
+LeadBack q root S nones t [] = t ≡ record { function = root; args = [] }
+LeadBack q root S nones t (u ∷ uses) =
+    (k : PlacedLink) × IsUseOf q S nones u k × (target_of k u ≡ made t)
+    × (s : SkolemTerm) × (source_of k u ≡ made s) × LeadBack q root S nones s uses
 
 -- at most as many uses as the query has links lead back from the mention's term to the root, and
 -- none where the term is to be the root itself
@@ -114,7 +115,7 @@ pub record ShowsReached (q : Scope) (f root : Name) (m : Mention) (uses : List L
   where
     pub bounded : length uses ≤ length (links_of q)
     pub nothing_to_itself : f ≡ root → uses ≡ []
-    pub lead : LeadBack q root m.conditions m.term uses
+    pub lead : LeadBack q root m.conditions m.nones m.term uses
 
 -- ---- certificates
 

@@ -6,7 +6,7 @@ use Rattle.sd_value.specs.declared.Value.TheVariants.{Data}
 use Rattle.query_spec.specs.Query.{Operand, variable, constant, Condition, SkolemTerm, Target}
 use Rattle.query_spec.specs.Query.{plain, made, summed, LinkLabel, quoted, label_variable}
 use Rattle.query_spec.specs.Query.{Link, Body}
-use Rattle.query_spec.specs.Mentions.{names, arc_names, IsFlat}
+use Rattle.query_spec.specs.Mentions.{names, arcs_in, IsFlat}
 use Rattle.site_spec.specs.Site.{Scope}
 
 -- a variable that a condition mentions, or a constant that is no page
@@ -30,21 +30,24 @@ IsBoundEnd conditions (plain operand) = IsBoundTarget conditions (plain operand)
 IsBoundEnd conditions (made t) = IsBoundTarget conditions (made t)
 IsBoundEnd conditions (summed a) = Unit {0}
 
--- a variable for a label is between arrows in some condition
-abbrev pub IsBoundLabel : List Condition → LinkLabel → Type 0
-IsBoundLabel conditions (quoted l) = Unit {0}
-IsBoundLabel conditions (label_variable x) = Contains (flat_map arc_names conditions) x
+-- a variable for a label is mentioned by a condition, and between arrows in some condition or NONE
+abbrev pub IsBoundLabel : List Condition → List (List Condition) → LinkLabel → Type 0
+IsBoundLabel conditions nones (quoted l) = Unit {0}
+IsBoundLabel conditions nones (label_variable x) =
+    Contains (flat_map names conditions) x × Contains (arcs_in conditions nones) x
 
 -- all that the link mentions is bound
-pub record IsBoundLink (conditions : List Condition) (k : Link) : Type 0 where
+pub record IsBoundLink (conditions : List Condition) (nones : List (List Condition)) (k : Link)
+    : Type 0 where
   pub source : IsBoundTarget conditions k.source
-  pub label : IsBoundLabel conditions k.label
+  pub label : IsBoundLabel conditions nones k.label
   pub target : IsBoundEnd conditions k.target
 
--- a negation holds no negation, and what links mention is bound
+-- a negation holds no negation and no call, also in NONEs, and what links mention is bound
 pub record IsCheckedBody (b : Body) : Type 0 where
   pub flat : All IsFlat b.conditions
-  pub links : (k : Link) → Contains b.links k → IsBoundLink b.conditions k
+  pub flat_nones : All (All IsFlat) b.nones
+  pub links : (k : Link) → Contains b.links k → IsBoundLink b.conditions b.nones k
 
 -- this is so of all blocks
 abbrev pub IsChecked : Scope → Type 0

@@ -6,19 +6,22 @@ use Rattle.query_spec.specs.Query.{Condition, SkolemTerm, Link, Body}
 use Rattle.query_spec.specs.Mentions.{same_name}
 use Rattle.site_spec.specs.Site.{Scope, terms_of}
 
--- a link, with the conditions of its block and of those round it
+-- a link, with the conditions and NONEs of its block and of those round it
 pub record PlacedLink : Type 0 where
   pub conditions : List Condition
+  pub nones : List (List Condition)
   pub link : Link
 
--- a term in a CREATE, LINK or COLLECT, with the conditions of its block and of those round it
+-- a term in a CREATE, LINK or COLLECT, with the conditions and NONEs of its block and of those round
+-- it
 pub record Mention : Type 0 where
   pub conditions : List Condition
+  pub nones : List (List Condition)
   pub term : SkolemTerm
 
 -- the links of a block
 abbrev pub body_links : Body → List PlacedLink
-body_links b = map (λ k. record { conditions = b.conditions; link = k }) b.links
+body_links b = map (λ k. record { conditions = b.conditions; nones = b.nones; link = k }) b.links
 
 -- all links of a query, in the order of the text
 abbrev pub links_of : Scope → List PlacedLink
@@ -32,7 +35,7 @@ pub record IsNumbered (links : List PlacedLink) (number : ℕ) (k : PlacedLink) 
 
 -- the mentions of a block: those in CREATE, in LINK and in COLLECT
 abbrev pub body_mentions : Body → List Mention
-body_mentions b = map (λ t. record { conditions = b.conditions; term = t }) (terms_of b)
+body_mentions b = map (λ t. record { conditions = b.conditions; nones = b.nones; term = t }) (terms_of b)
 
 -- all mentions of a query, block by block in the order of the text
 abbrev pub all_mentions : Scope → List Mention

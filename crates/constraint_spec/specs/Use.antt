@@ -1,14 +1,14 @@
 -- Uses of a link under a mention: each variable of the link's chain is mapped to one of the
 -- mention's, so that the mention's conditions entail the link's.
-use Rattle.std.specs.Prelude.{ℕ, List, [], ◌∷◌, All, Contains, map, if◌then◌else◌}
+use Rattle.std.specs.Prelude.{◌≡◌, ℕ, List, [], ◌∷◌, All, Contains, map, if◌then◌else◌}
 use Rattle.std.specs.List.{AllZip}
 use Rattle.sd_value.specs.Names.{Name}
 use Rattle.query_spec.specs.declared.Variable.{Variable}
 use Rattle.query_spec.specs.Query.{Operand, variable, constant, PathStep, arc_variable, expression}
-use Rattle.query_spec.specs.Query.{Condition, member, path, compare, one_of, kind, negation}
+use Rattle.query_spec.specs.Query.{Condition, member, path, compare, one_of, kind, negation, gives}
 use Rattle.query_spec.specs.Query.{Aggregate, count_of, min_of, max_of, sum_of}
 use Rattle.query_spec.specs.Query.{SkolemTerm, Target, plain, made, summed}
-use Rattle.query_spec.specs.Mentions.{same_name, variables_of}
+use Rattle.query_spec.specs.Mentions.{same_name, variables_of, own_variables, is_declared}
 use Rattle.site_spec.specs.Site.{Scope}
 use Rattle.constraint_spec.specs.Placed.{PlacedLink, links_of, IsNumbered}
 use Rattle.constraint_spec.specs.Entailed.{IsEntailed}
@@ -33,6 +33,8 @@ rename f (compare t op u) = compare (rename_operand f t) op (rename_operand f u)
 rename f (one_of t values) = one_of (rename_operand f t) values
 rename f (kind test x) = kind test (f x)
 rename f (negation c) = negation (rename f c)
+rename f (gives computes t sign g args) =
+    gives computes (rename_operand f t) sign g (map (rename_operand f) args)
 
 -- the term with its variables renamed
 abbrev pub rename_term : (Name → Name) → SkolemTerm → SkolemTerm
@@ -67,20 +69,53 @@ pub record LinkUse : Type 0 where
 
 -- what the names make of the variables of a link's chain
 abbrev pub naming : PlacedLink → List Name → Name → Name
-naming k names = name_for (variables_of k.conditions) names
+naming k names = name_for (variables_of k.conditions k.nones) names
+
+-- the name that the n-th of these variables has, for one that is the n-th of the others; any other
+-- name stays
+abbrev pub in_place_of : List Variable → List Variable → Name → Name
+in_place_of own others = name_for own (map (λ v. v.name) others)
+
+-- what becomes of a name within a NONE: a variable of the link's chain is mapped as f says, and each
+-- of its own to the own one of the same place of the other
+abbrev pub within_none : List Variable → List Variable → (Name → Name) → List Condition
+    → List Condition → Name → Name
+within_none given variables f none other x =
+    if is_declared variables x then f x
+    else in_place_of (own_variables variables none) (own_variables given other) x
+
+-- A NONE of the given chain is this one with its variables renamed: those of the link's chain as
+-- their names say, and each of its own to the own one of the same place, by first mention, which has
+-- the same sort.
+pub record IsSameNone (given variables : List Variable) (f : Name → Name)
+    (none other : List Condition) : Type 0 where
+  pub sorts : map (λ v. v.sort) (own_variables variables none)
+      ≡ map (λ v. v.sort) (own_variables given other)
+  pub same : map (rename (within_none given variables f none other)) none ≡ other
+
+-- a NONE is entailed by the same one alone
+abbrev pub HasNone : List Variable → List (List Condition) → List Variable → (Name → Name)
+    → List Condition → Type 0
+HasNone given nones variables f none =
+    (other : List Condition) × Contains nones other × IsSameNone given variables f none other
 
 -- each name is a variable of S of the same sort, and S entails each condition of the link's chain
-pub record IsUse (version : ℕ) (S : List Condition) (k : PlacedLink) (names : List Name) : Type 0
-  where
-    pub sorts : AllZip
-        (λ v y. Contains (variables_of S) (record { name = y; arc = v.arc }))
-        (variables_of k.conditions) names
-    pub entailed : All (λ c. IsEntailed version S (rename (naming k names) c)) k.conditions
+-- and each of its NONEs
+pub record IsUse (version : ℕ) (S : List Condition) (nones : List (List Condition))
+    (k : PlacedLink) (names : List Name) : Type 0 where
+  pub sorts : AllZip
+      (λ v y. Contains (variables_of S nones) (record { name = y; sort = v.sort }))
+      (variables_of k.conditions k.nones) names
+  pub entailed : All (λ c. IsEntailed version S (rename (naming k names) c)) k.conditions
+  pub none : All
+      (HasNone (variables_of S nones) nones (variables_of k.conditions k.nones) (naming k names))
+      k.nones
 
 -- under S the use is one of this link of the query
-pub record IsUseOf (q : Scope) (S : List Condition) (u : LinkUse) (k : PlacedLink) : Type 0 where
+pub record IsUseOf (q : Scope) (S : List Condition) (nones : List (List Condition)) (u : LinkUse)
+    (k : PlacedLink) : Type 0 where
   pub numbered : IsNumbered (links_of q) u.link k
-  pub is_use : IsUse q.version S k u.names
+  pub is_use : IsUse q.version S nones k u.names
 
 -- the link's source with its variables mapped
 abbrev pub source_of : PlacedLink → LinkUse → Target

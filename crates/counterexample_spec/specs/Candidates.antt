@@ -25,6 +25,7 @@ abbrev pub mention_graph : Mention → Bool → DataGraph
 mention_graph m repeats =
     graph_of (stated (record {
       conditions = m.conditions;
+      nones = m.nones;
       set = None;
       copy = first_copy;
       repeats = repeats;
@@ -45,6 +46,7 @@ arguments_of (summed a) = []
 abbrev pub link_pattern : Label → PlacedLink → Copy → Bool → Pattern
 link_pattern l k copy repeats = record {
   conditions = k.conditions;
+  nones = k.nones;
   set = set_by l k.link.label;
   copy = copy;
   repeats = repeats;

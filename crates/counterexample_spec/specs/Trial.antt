@@ -1,6 +1,6 @@
 -- Which candidates are tried: those over which the chains of a query have at most so many rows, by a
 -- bound that is counted from the graph's edges and members.
-use Rattle.std.specs.Prelude.{ℕ, suc, ◌+◌, ◌*◌, ◌≤◌, max, Bool, true, ◌&&◌, List, [], ◌∷◌, ◌++◌, length, map, filter, fold, count_by, sum_by, if◌then◌else◌}
+use Rattle.std.specs.Prelude.{ℕ, suc, ◌+◌, ◌*◌, ◌≤◌, max, Bool, true, ◌&&◌, ◌||◌, List, [], ◌∷◌, ◌++◌, length, map, filter, fold, count_by, sum_by, if◌then◌else◌}
 use Rattle.std.specs.List.{list_any}
 use Rattle.sd_value.specs.Names.{Name, Label}
 use Rattle.rpe.specs.Regex as rpe
@@ -8,7 +8,7 @@ use Rattle.graph_spec.specs.DataGraph.{DataGraph}
 use Rattle.graph_spec.specs.declared.Edge.{Edge}
 use Rattle.query_spec.specs.declared.Variable.{Variable}
 use Rattle.query_spec.specs.Query.{Operand, variable, constant, arc_variable, expression, Condition, member, path, Body}
-use Rattle.query_spec.specs.Mentions.{same_name, operand_names, variables_of}
+use Rattle.query_spec.specs.Mentions.{same_name, operand_names, variables_of, is_computed}
 use Rattle.site_spec.specs.Site.{Scope}
 
 -- how many rows the chains of all blocks together may have over a graph that is tried
@@ -76,20 +76,21 @@ abbrev pub rows_after : DataGraph → List Condition → List Condition → ℕ
 rows_after G before [] = 1
 rows_after G before (c ∷ cs) = max (ways G before c) 1 * rows_after G (before ++ c ∷ []) cs
 
--- in how many ways a variable has a value beside those that conditions give it
+-- in how many ways a variable has a value beside those that conditions give it; one to which calls give values has one
 abbrev pub free_ways : DataGraph → List Condition → Variable → ℕ
-free_ways G conditions v = if is_given conditions v.name then 1 else size G
+free_ways G conditions v =
+    if is_computed v.sort || is_given conditions v.name then 1 else size G
 
 abbrev pub product : List ℕ → ℕ
 product [] = 1
 product (n ∷ ns) = n * product ns
 
 -- how many rows a chain of these conditions has at most
-abbrev pub rows_bound : DataGraph → List Condition → ℕ
-rows_bound G conditions =
-    rows_after G [] conditions * product (map (free_ways G conditions) (variables_of conditions))
+abbrev pub rows_bound : DataGraph → List Condition → List (List Condition) → ℕ
+rows_bound G conditions nones =
+    rows_after G [] conditions * product (map (free_ways G conditions) (variables_of conditions nones))
 
 -- the graph has few edges, and all chains of the query together have few rows over it
 pub record IsSmall (q : Scope) (G : DataGraph) : Type 0 where
   pub edges : length G.edges ≤ trial_edges
-  pub rows : sum_by (λ b. rows_bound G b.conditions) q.bodies ≤ trial_budget
+  pub rows : sum_by (λ b. rows_bound G b.conditions b.nones) q.bodies ≤ trial_budget

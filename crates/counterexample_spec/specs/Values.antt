@@ -1,5 +1,5 @@
 -- A value for each variable of a chain, so that the chain's conditions hold where they easily can.
-use Rattle.std.specs.Prelude.{ℕ, ◌+◌, pos, Bool, true, false, List, [], ◌∷◌, ◌++◌, length, fold, codes, if◌then◌else◌}
+use Rattle.std.specs.Prelude.{ℕ, ◌+◌, pos, Bool, true, false, ◌&&◌, List, [], ◌∷◌, ◌++◌, length, fold, codes, if◌then◌else◌}
 use Rattle.std.specs.Prelude.{Option, Some, None, option_map, unwrap_or}
 use Rattle.std.specs.Option.{option_or}
 use Rattle.std.specs.List.{list_any}
@@ -11,9 +11,11 @@ use Rattle.graph_spec.specs.DataGraph.{node, text}
 use Rattle.query_spec.specs.declared.Op.TheVariants.{Eq}
 use Rattle.query_spec.specs.declared.Test.{Test}
 use Rattle.query_spec.specs.declared.Test.TheVariants.{IsInt, IsText, IsUrl, IsFile, IsNode}
+use Rattle.query_spec.specs.declared.Sort.{Sort}
+use Rattle.query_spec.specs.declared.Sort.TheVariants.{Node, Arc, Computed}
 use Rattle.query_spec.specs.declared.Variable.{Variable}
 use Rattle.query_spec.specs.Query.{Operand, variable, constant, Condition, compare, one_of, kind}
-use Rattle.query_spec.specs.Mentions.{same_name, variables_of}
+use Rattle.query_spec.specs.Mentions.{same_name, variables_of, is_computed}
 use Rattle.query_spec.specs.Holds.{Assignment}
 use Rattle.query_spec.specs.Rows.{value_in}
 
@@ -34,6 +36,7 @@ pub data Copy : Type 0 where
 -- path is taken once or left out
 pub record Pattern : Type 0 where
   pub conditions : List Condition
+  pub nones : List (List Condition)
   pub set : Option LabelSet
   pub copy : Copy
   pub repeats : Bool
@@ -99,10 +102,20 @@ value_of_kind number name IsFile = Data (File name)
 value_of_kind number name IsNode = node name
 
 -- an arc variable's value has to be a text
-abbrev pub fitting : Bool → Option Value → Option Value
-fitting true (Some (Data (Text t))) = Some (text t)
-fitting true v = None
-fitting false v = v
+abbrev pub fitting : Sort → Option Value → Option Value
+fitting Arc (Some (Data (Text t))) = Some (text t)
+fitting Arc v = None
+fitting Node v = v
+fitting Computed v = v
+
+-- calls give one of the variables of the name its values
+abbrev pub is_given : List Variable → Name → Bool
+is_given variables x = list_any (λ v. is_computed v.sort && same_name x v.name) variables
+
+-- the value of a variable that is frozen: one to which calls give values has none
+abbrev pub frozen_in : List Variable → List Value → Assignment
+frozen_in variables values x =
+    if is_given variables x then None else value_in variables values x
 
 -- ---- the values
 
@@ -110,7 +123,7 @@ fitting false v = v
 -- before it
 abbrev pub given : Pattern → Assignment → Variable → Option Value
 given p s v =
-    first_found (fitting v.arc)
+    first_found (fitting v.sort)
     (set_to p.set v.name
     ∷ first_found (equal_to_earlier s v.name) p.conditions
     ∷ first_found (equal_to_constant v.name) p.conditions
@@ -120,28 +133,33 @@ given p s v =
 -- what the first test of the variable of number i gives it
 abbrev pub tested : Pattern → ℕ → Variable → Option Value
 tested p i v =
-    fitting v.arc
+    fitting v.sort
     (option_map (value_of_kind (number_in p.copy v.name i) (name_in p.copy v.name))
     (first_found (test_of v.name) p.conditions))
+
+-- a node of the name, or a text of it
+abbrev pub named_by : Sort → Name → Value
+named_by Node name = node name
+named_by Arc name = text name
+named_by Computed name = text name
 
 -- a value of the variable's own: a node of its name, or a label
 abbrev pub own : Pattern → Variable → Value
 own p v =
-    let name = name_in p.copy v.name in
-    if v.arc then text name else node name
+    named_by v.sort (name_in p.copy v.name)
 
 -- the value of the variable that follows those of these values
 abbrev pub value_after : Pattern → List Value → Variable → Value
 value_after p known v =
     unwrap_or
     (option_or
-    (given p (value_in (variables_of p.conditions) known) v) (tested p (length known) v))
+    (given p (frozen_in (variables_of p.conditions p.nones) known) v) (tested p (length known) v))
     (own p v)
 
 -- the values of the chain's variables, in their order
 abbrev pub values_of : Pattern → List Value
-values_of p = fold (λ known v. known ++ value_after p known v ∷ []) [] (variables_of p.conditions)
+values_of p = fold (λ known v. known ++ value_after p known v ∷ []) [] (variables_of p.conditions p.nones)
 
 -- the value of each variable
 abbrev pub assigned : Pattern → Assignment
-assigned p = value_in (variables_of p.conditions) (values_of p)
+assigned p = frozen_in (variables_of p.conditions p.nones) (values_of p)

@@ -62,7 +62,7 @@ y = codes "y"
 
 -- `1997 -> * -> y`
 abbrev pub from_1997 : Chain
-from_1997 = chain_of 1 (path (constant (int 1997)) (expression (star any)) (variable y) ∷ [])
+from_1997 = chain_of 1 (path (constant (int 1997)) (expression (star any)) (variable y) ∷ []) []
 
 -- a graph of nothing
 abbrev pub empty_graph : DataGraph

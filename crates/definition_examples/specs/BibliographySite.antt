@@ -47,12 +47,13 @@ year_page = record { function = codes "YearPage"; args = variable v ∷ [] }
 
 -- the first block
 abbrev pub home : Body
-home = record { conditions = []; creates = root_page ∷ []; links = []; collects = [] }
+home = record { conditions = []; nones = []; creates = root_page ∷ []; links = []; collects = [] }
 
 -- the second block
 abbrev pub papers : Body
 papers = record {
   conditions = member publications x ∷ path (variable x) (arc_variable l) (variable v) ∷ [];
+  nones = [];
   creates = paper_page ∷ [];
   links =
       record { source = made paper_page; label = label_variable l; target = plain (variable v) }
@@ -65,6 +66,7 @@ papers = record {
 abbrev pub years : Body
 years = record {
   conditions = compare (variable l) Eq (constant (text year)) ∷ [];
+  nones = [];
   creates = year_page ∷ [];
   links =
       record { source = made year_page; label = quoted (codes "Year"); target = plain (variable v) }
@@ -101,7 +103,7 @@ variables =
 
 -- the chain of the nested block
 abbrev pub chain : Chain
-chain = chain_of 1 in_scope
+chain = chain_of 1 in_scope []
 
 -- a row of that chain
 abbrev pub row : Name → ℕ → List Value

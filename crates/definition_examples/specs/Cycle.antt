@@ -67,5 +67,9 @@ templates = record {
   functions =
       record { name = p; number = 0 } ∷ record { name = q; number = 0 }
       ∷ record { name = r; number = 0 } ∷ [];
+  presentations = [];
   collections = [];
+  addresses = [];
+  root = None;
+  base = codes "/";
 }

@@ -76,4 +76,12 @@ up_to n = record { keys = by_k ∷ []; descend = false; limit = Some n; delimite
 
 -- no templates
 abbrev pub no_templates : TemplateFile
-no_templates = record { bodies = []; functions = []; collections = [] }
+no_templates = record {
+  bodies = [];
+  functions = [];
+  presentations = [];
+  collections = [];
+  addresses = [];
+  root = None;
+  base = codes "/";
+}

@@ -1,6 +1,7 @@
 pub mod Tools
 pub mod LoopRow
 pub mod NegationRows
+pub mod Placed
 pub mod StarRows
 pub mod Bibliography
 pub mod RepeatedArguments

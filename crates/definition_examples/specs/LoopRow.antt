@@ -29,7 +29,7 @@ graph = record { nodes = a ∷ []; edges = edge a e (node a) ∷ []; members = [
 
 -- the chain of the condition
 abbrev pub chain : Chain
-chain = chain_of 1 (path (variable x) (expression (star any)) (variable y) ∷ [])
+chain = chain_of 1 (path (variable x) (expression (star any)) (variable y) ∷ []) []
 
 -- its one row
 abbrev pub rows : List (List Value)

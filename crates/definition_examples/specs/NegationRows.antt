@@ -41,7 +41,7 @@ conditions = negation (path (variable p) (arc_variable l) (variable q)) ∷ []
 
 -- its chain
 abbrev pub chain : Chain
-chain = chain_of 1 conditions
+chain = chain_of 1 conditions []
 
 -- a row of the chain
 abbrev pub row : Name → Name → List Value

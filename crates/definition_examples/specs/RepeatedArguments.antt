@@ -47,6 +47,7 @@ term = record { function = f; args = variable x ∷ variable x ∷ [] }
 abbrev pub body : Body
 body = record {
   conditions = path (variable y) (expression (label v)) (variable x) ∷ [];
+  nones = [];
   creates = term ∷ [];
   links = [];
   collects = [];

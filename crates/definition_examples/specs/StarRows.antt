@@ -50,7 +50,7 @@ conditions = path (variable x) (expression (seq (label a) (star (label b)))) (va
 
 -- its chain
 abbrev pub chain : Chain
-chain = chain_of 1 conditions
+chain = chain_of 1 conditions []
 
 -- a row of the chain
 abbrev pub row : Name → Name → List Value

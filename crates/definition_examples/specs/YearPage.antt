@@ -5,6 +5,7 @@
 use Rattle.std.specs.Prelude.{List, [], ◌∷◌, Some, None, false, codes}
 use Rattle.sd_value.specs.declared.Term.{Term}
 use Rattle.sd_value.specs.declared.Value.{Value}
+use Rattle.tmpl.specs.declared.endings.Ending.TheVariants.{Html}
 use Rattle.tmpl.specs.declared.Expr.{Expr}
 use Rattle.tmpl.specs.declared.Order as orders
 use Rattle.tmpl.specs.declared.Mode.TheVariants.{Written, Link}
@@ -32,7 +33,7 @@ apart_by delimiter = record { keys = []; descend = false; limit = None; delimite
 -- the papers of a page as links, each by its title
 abbrev pub papers_by_title : Body
 papers_by_title =
-    format (ends (codes "Paper")) (Link (Some (title ∷ []))) (apart_by (codes ", ")) done
+    format (ends (codes "Paper")) (Link (Some (title ∷ [])) Html) (apart_by (codes ", ")) done
 
 -- the template of the home page
 abbrev pub root_body : Body
@@ -41,13 +42,13 @@ root_body = text (codes "<h1>Home</h1>") papers_by_title
 -- the template of a paper's page
 abbrev pub paper_body : Body
 paper_body =
-    text (codes "<h1>") (format (ends title) (Written Escaped) plain_order
-    (text (codes "</h1>") (format (ends author) (Written Escaped) (apart_by (codes " and ")) done)))
+    text (codes "<h1>") (format (ends title) (Written Escaped Html) plain_order
+    (text (codes "</h1>") (format (ends author) (Written Escaped Html) (apart_by (codes " and ")) done)))
 
 -- the template of a year's page
 abbrev pub year_body : Body
 year_body =
-    text (codes "<h1>") (format (ends (codes "Year")) (Written Escaped) plain_order
+    text (codes "<h1>") (format (ends (codes "Year")) (Written Escaped Html) plain_order
     (text (codes "</h1>") papers_by_title))
 
 -- the file of the three templates
@@ -58,7 +59,11 @@ templates = record {
       record { name = codes "RootPage"; number = 0 }
       ∷ record { name = codes "PaperPage"; number = 1 }
       ∷ record { name = codes "YearPage"; number = 2 } ∷ [];
+  presentations = [];
   collections = [];
+  addresses = [];
+  root = None;
+  base = codes "/";
 }
 
 -- the page that is asked for

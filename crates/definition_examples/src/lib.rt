@@ -27,8 +27,8 @@ mod weights;
 
 pub use laws::{AnySite, comparisons_agree, one_answer};
 pub use pages::{
-    cycle_of_pages, labels_of_links, limited_and_counted, missing_keys, worked_addresses,
-    worked_texts,
+    cycle_of_pages, labels_of_links, limited_and_counted, missing_keys, placed_addresses,
+    worked_addresses, worked_texts,
 };
 pub use weights::year_page_weighs_ten;
 
@@ -67,7 +67,7 @@ pub fn repeated_arguments()
 /// the block round it.
 pub fn bibliography_site()
     ensures blocks { blocks_in_scope site.query ≡ site.home ∷ site.papers ∷ site.scoped_years ∷ [] }
-    ensures variables { variables_of site.in_scope ≡ site.variables }
+    ensures variables { variables_of site.in_scope [] ≡ site.variables }
     ensures root { root_function site.query ≡ Some (codes "RootPage") }
     ensures years { ListsExactly row_cmp (IsRow papers.graph site.chain) site.rows }
     ensures year_1998 { InSite papers.graph site.scope (site.year_term 1998) }

@@ -1,6 +1,6 @@
 // Pages of small sites.
-ghost use Rattle.std.specs.Prelude.{◌≡◌, [], ◌∷◌, codes};
-ghost use Rattle.sd_value.specs.declared.Datum.TheVariants.{Text, Url as Address, File, Node};
+ghost use Rattle.std.specs.Prelude.{◌≡◌, [], ◌∷◌, codes, pos};
+ghost use Rattle.sd_value.specs.declared.Datum.TheVariants.{Int, Text, Url as Address, File, Node};
 ghost use Rattle.sd_value.specs.declared.Value.TheVariants.{Data};
 ghost use Rattle.graph_spec.specs.DataGraph.{node};
 ghost use Rattle.page_spec.specs.Site.{Arranged};
@@ -8,7 +8,10 @@ ghost use Rattle.page_spec.specs.Show.{address};
 ghost use Rattle.page_spec.specs.Pieces.{bytes, Formatted, Expands};
 ghost use Rattle.tmpl.specs.Body.{done, count};
 ghost use Rattle.tmpl.specs.declared.Mode.TheVariants.{Labelled};
-ghost use Rattle.page_spec.specs.Address.{path};
+ghost use Rattle.tmpl.specs.declared.endings.Ending.TheVariants.{Html, Bib};
+ghost use Rattle.page_spec.specs.Addresses.{own_page, page_address, shown_address};
+ghost use Rattle.page_spec.specs.declared.PageName.{PageName};
+ghost use Rattle.page_spec.specs.Address.{path, PageOf};
 ghost use Rattle.page_spec.specs.Written.{written};
 ghost use Rattle.tmpl.specs.declared.Writing.TheVariants.{Escaped, Raw, Lines, Url, Json};
 ghost use Rattle.page_spec.specs.declared.Outcome.TheVariants.{Cyclic};
@@ -16,6 +19,7 @@ ghost use Rattle.page_spec.specs.Page.{IsOutcome};
 ghost use Rattle.definition_examples.specs.Bibliography.{int};
 ghost use Rattle.definition_examples.specs.Keys as keys;
 ghost use Rattle.definition_examples.specs.Cycle as cycle;
+ghost use Rattle.definition_examples.specs.Placed as placed;
 
 /// `@e KEY=k ORDER=ascend` where `&c` alone has a key: `&b`, which has none, is last; first with
 /// `ORDER=descend`, which turns the whole list round; and last with `KEY=k DESCEND`.
@@ -41,20 +45,20 @@ pub fn limited_and_counted()
 /// `LINK LABEL="<n>"`: the label is the same whatever the value is, and it stands alone where no
 /// link can lead, as at an Int or at what a browser would run.
 pub fn labels_of_links()
-    ensures led { Formatted keys.site keys.no_templates (Labelled (codes "<n>"))
+    ensures led { Formatted keys.site keys.no_templates (Labelled (codes "<n>") Html)
         (Data (File (codes "a&b"))) (bytes (codes "<a href=\"a&amp;b\">&lt;n&gt;</a>")) }
-    ensures active { Formatted keys.site keys.no_templates (Labelled (codes "<n>"))
+    ensures active { Formatted keys.site keys.no_templates (Labelled (codes "<n>") Html)
         (Data (Address (codes "JavaScript:x"))) (bytes (codes "&lt;n&gt;")) }
-    ensures int { Formatted keys.site keys.no_templates (Labelled (codes "<n>")) (int 5)
+    ensures int { Formatted keys.site keys.no_templates (Labelled (codes "<n>") Html) (int 5)
         (bytes (codes "&lt;n&gt;")) }
 {}
 
 /// P() embeds Q(), Q() embeds R(), and R() embeds Q(): asking for P() names Q(), the first page
 /// that comes again, and not P(), which was asked for.
 pub fn cycle_of_pages()
-    ensures repeated { IsOutcome cycle.site cycle.templates (cycle.term cycle.p)
+    ensures repeated { IsOutcome cycle.site cycle.templates (own_page (cycle.term cycle.p))
         (Cyclic (cycle.page cycle.q)) }
-    ensures asked { IsOutcome cycle.site cycle.templates (cycle.term cycle.p)
+    ensures asked { IsOutcome cycle.site cycle.templates (own_page (cycle.term cycle.p))
         (Cyclic (cycle.page cycle.p)) → ⊥ }
 {}
 
@@ -72,6 +76,29 @@ pub fn worked_addresses()
     ensures absolute { path (codes "HTTP://a/YearPage/i1998.html") ≡ codes "/YearPage/i1998.html" }
     ensures no_path { path (codes "http://a") ≡ codes "/" }
     ensures no_escape { path (codes "/%5?%41") ≡ codes "/%5" }
+{}
+
+/// Addresses of pages by their templates, and as these show them: arguments are plain behind an AT, and a text that would be
+/// an Int, or nothing, has `~t` before it; another ending is in place of `html`; a FILE is the whole address of its page
+/// alone; the root is what addresses begin with; and what targets name.
+pub fn placed_addresses()
+    ensures plain { page_address placed.templates (placed.page placed.p (Int (pos 5) ∷ Text (codes "5") ∷ []) Html)
+        ≡ codes "/people/5/~t5.html" }
+    ensures marked { page_address placed.templates
+        (placed.page placed.p (Text [] ∷ Text (codes "a b") ∷ Node (codes "x") ∷ []) Bib)
+        ≡ codes "/people/~t/a~20b/~nx.bib" }
+    ensures file { page_address placed.templates (placed.page placed.feed [] Html) ≡ codes "/feed.xml" }
+    ensures others { page_address placed.templates (placed.page placed.feed (Int (pos 5) ∷ []) Html)
+        ≡ codes "/Feed/i5.html" }
+    ensures home { page_address placed.templates (placed.page placed.home [] Html) ≡ codes "/Home.html" }
+    ensures shown { shown_address placed.templates (placed.page placed.p (Int (pos 5) ∷ []) Html)
+        ≡ codes "/g/people/5.html" }
+    ensures root { shown_address placed.templates (placed.page placed.home [] Html) ≡ codes "/g/" }
+    ensures other { shown_address placed.templates (placed.page placed.home [] Bib) ≡ codes "/g/Home.bib" }
+    ensures target { PageOf placed.templates (codes "/g/people/5.bib?x")
+        (placed.page placed.p (Int (pos 5) ∷ []) Bib) }
+    ensures named_root { PageOf placed.templates (codes "/g/") (placed.page placed.home [] Html) }
+    ensures none { (q : PageName) → PageOf placed.templates (codes "/P/i5.html") q → ⊥ }
 {}
 
 /// Texts as pages show them: escaped, as it stands, with the breaks of CR LF, LF and CR, as an

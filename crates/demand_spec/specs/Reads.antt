@@ -1,7 +1,6 @@
 -- What a page may read of its site: the words of its templates, step by step.
 use Rattle.std.specs.Prelude.{◌≡◌, ◌⊎◌, ℕ, true, List, [], ◌∷◌, Contains, get_or}
 pub use Rattle.sd_value.specs.Names.{Name, Label, Word}
-use Rattle.sd_value.specs.declared.Term.{Term}
 use Rattle.sd_value.specs.declared.Value.{Value}
 use Rattle.sd_value.specs.declared.Value.TheVariants.{Page}
 use Rattle.tmpl.specs.Body.{Body, done, TemplateFile}
@@ -9,8 +8,9 @@ use Rattle.tmpl.specs.Expressions.{Use, uses, LoopOver, loops}
 use Rattle.tmpl.specs.declared.Expr.{Expr}
 use Rattle.tmpl.specs.declared.WordRoot.TheVariants.{Here, Loop, Collection}
 use Rattle.page_spec.specs.Site.{Site, Reaches}
-use Rattle.page_spec.specs.Pieces.{HasTemplate}
-use Rattle.page_spec.specs.Page.{IsPresent, Leads}
+use Rattle.page_spec.specs.declared.PageName.{PageName}
+use Rattle.page_spec.specs.Pieces.{HasTemplate, HasTemplateAs, embed}
+use Rattle.page_spec.specs.Page.{IsPresent, OfPage, Leads}
 use Rattle.page_spec.specs.Question.{Question, in_site, out, collected, template}
 
 module _ (site : Site) where
@@ -55,17 +55,27 @@ module _ (site : Site) (templates : TemplateFile) where
   abbrev pub Presents : Value → Body → Type 0
   Presents n b = (k : ℕ) × HasTemplate site templates n k × (b ≡ get_or templates.bodies k done)
 
--- of the page of one term
-module _ (site : Site) (templates : TemplateFile) (page : Term) where
-  -- the page, and what embeds reach from it, unless it is missing
-  abbrev pub IsDemanded : Value → Type 0
-  IsDemanded n = IsPresent site templates page × Leads site templates (Page page) n
+-- of one page
+module _ (site : Site) (templates : TemplateFile) (page : PageName) where
+  -- the page's own template
+  abbrev pub PresentsPage : Body → Type 0
+  PresentsPage b =
+      (k : ℕ) × HasTemplateAs site templates page.ending page.term k
+      × (b ≡ get_or templates.bodies k done)
 
-  -- the page's templates ask the question
+  -- what embeds reach from the page, unless it is missing
+  abbrev pub IsDemanded : Value → Type 0
+  IsDemanded n =
+      OfPage site templates page
+      (λ ps. (m : Value) × Contains ps (embed m) × Leads site templates m n)
+
+  -- the page's own template asks the question, or that of what embeds reach from it
   abbrev pub IsAsked : Question → Type 0
   IsAsked q =
-      (n : Value) × IsDemanded n
-      × ((b : Body) × Presents site templates n b × BodyAsks site b n q)
+      (IsPresent site templates page
+      × ((b : Body) × PresentsPage b × BodyAsks site b (Page page.term) q))
+      ⊎ ((n : Value) × IsDemanded n
+      × ((b : Body) × Presents site templates n b × BodyAsks site b n q))
 
   -- a pair of a value that is reached and the next label
   abbrev pub IsRead : Value → Label → Type 0
@@ -82,7 +92,7 @@ module _ (site : Site) (templates : TemplateFile) (page : Term) where
   -- what asking for the page may ask of the site: whether the page is there, its own template, and
   -- what its demand asks
   abbrev pub MayAsk : Question → Type 0
-  MayAsk q = ((q ≡ in_site page) ⊎ (q ≡ template (Page page))) ⊎ IsAsked q
+  MayAsk q = ((q ≡ in_site page.term) ⊎ (q ≡ template (Page page.term))) ⊎ IsAsked q
 
 -- what is kept after a call and wasn't before is what P admits
 pub record KeepsOnly (P : Question → Type 0) (before after : List Question) : Type 0 where

@@ -53,5 +53,9 @@ abbrev pub file : Body → TemplateFile
 file body = record {
   bodies = body ∷ [];
   functions = record { name = f; number = 0 } ∷ [];
+  presentations = [];
   collections = [];
+  addresses = [];
+  root = None;
+  base = codes "/";
 }

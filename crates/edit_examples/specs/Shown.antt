@@ -6,6 +6,7 @@ use Rattle.rpe.specs.Regex.{label}
 use Rattle.graph_spec.specs.DataGraph.{text}
 use Rattle.query_spec.specs.Query.{variable, expression, member, path, made, plain, quoted, Body as Block}
 use Rattle.site_spec.specs.Site.{Scope}
+use Rattle.tmpl.specs.declared.endings.Ending.TheVariants.{Html}
 use Rattle.tmpl.specs.declared.Mode.TheVariants.{Written}
 use Rattle.tmpl.specs.declared.Writing.TheVariants.{Escaped}
 use Rattle.tmpl.specs.Body.{Body, done, format}
@@ -27,7 +28,7 @@ abbrev pub scope : Scope
 scope = record { version = 1; bodies = block ∷ [] }
 
 abbrev pub body : Body
-body = format (here (t ∷ [])) (Written Escaped) plain_order done
+body = format (here (t ∷ [])) (Written Escaped Html) plain_order done
 
 -- the one block, and no label: those of the data are read by the query alone
 abbrev pub footprint : Footprint

@@ -4,6 +4,7 @@
 ghost use Rattle.std.specs.Prelude.{◌≡◌, [], ◌∷◌};
 ghost use Rattle.page_spec.specs.declared.Outcome.TheVariants.{Page as Whole};
 ghost use Rattle.page_spec.specs.Page.{IsOutcome};
+ghost use Rattle.page_spec.specs.Addresses.{own_page};
 ghost use Rattle.weight_spec.specs.Site.{site_of};
 ghost use Rattle.edit_spec.specs.Footprint.{own_labels, other_labels, IsFootprint, TouchesFootprint};
 ghost use Rattle.edit_laws.specs.Laws.{Becomes};
@@ -35,9 +36,9 @@ pub fn labels_count_by_place()
     ensures edit { Becomes twice.before twice.edit twice.after }
     ensures too_small { TouchesFootprint twice.edit twice.scope twice.too_small → ⊥ }
     ensures empty_before { IsOutcome (site_of twice.before twice.scope) (parts.file twice.body)
-        parts.term (Whole []) }
+        (own_page parts.term) (Whole []) }
     ensures not_after { IsOutcome (site_of twice.after twice.scope) (parts.file twice.body)
-        parts.term (Whole []) → ⊥ }
+        (own_page parts.term) (Whole []) → ⊥ }
 {}
 
 /// An expression with the empty word finds no variable: `"U" -> "a"* -> y` has a row for y as "U" as soon as the data have

@@ -1,11 +1,12 @@
 //! What the pages of a function rest on, and whether an edit of the data can touch them.
 #![tactic(auto)]
 
-ghost use Rattle.std.specs.Prelude.{◌≡◌, IfOk, map};
-ghost use Rattle.tmpl.specs.Reading.{file_of, named_of};
+ghost use Rattle.std.specs.Prelude.{◌≡◌, IfOk};
+ghost use Rattle.tmpl.specs.Reading.{file_of};
+ghost use Rattle.tmpl.specs.declared.endings.Ending.{Ending as AnyEnding};
 ghost use Rattle.query_blocks.specs.Blocks.{body_of, scope_of};
 ghost use Rattle.edit_footprint.specs.Rests as tests;
-ghost use Rattle.edit_footprint.specs.Numbers.{number_of, numbers_from, AreReads, AreParts};
+ghost use Rattle.edit_footprint.specs.Numbers.{numbers_from, AreReads, AreParts};
 ghost use Rattle.tmpl.specs.Body.{TemplateFile};
 
 mod blocks;
@@ -19,23 +20,16 @@ use query_blocks::QueryBlocks;
 use reads::{Reads, gather};
 use sd_value::{NoMemory, Str, sort_and_dedup};
 use std::alloc::Global;
-use tmpl::{NamedTemplate, Templates, uses_of};
+use tmpl::{Ending, Templates, uses_of};
 
-// The number of the function's template.
-fn number_of(names: &[NamedTemplate], function: &Str) -> Option<u32>
-    ensures { result ≡ number_of function.now (map named_of names.now) }
-{
-    for named in names {
-        if named.name == *function {
-            return Some(named.template);
-        }
-    }
-    None
-}
-
-// What the function's template reads: nothing, where it has none.
-fn reads_of(alloc: Global, templates: &Templates, function: &Str) -> Result<Reads, NoMemory>
-    ensures { IfOk result (AreReads (file_of templates.now) function.now) }
+// What the template of these pages reads: nothing, where there is none.
+fn reads_of(
+    alloc: Global,
+    templates: &Templates,
+    function: &Str,
+    ending: Ending,
+) -> Result<Reads, NoMemory>
+    ensures { IfOk result (AreReads (file_of templates.now) function.now ending) }
 {
     let mut reads = Reads {
         embeds: false,
@@ -43,7 +37,7 @@ fn reads_of(alloc: Global, templates: &Templates, function: &Str) -> Result<Read
         others: Vec::new(alloc),
         collections: Vec::new(alloc),
     };
-    match number_of(templates.functions(), function) {
+    match templates.presented(function, ending) {
         None => Ok(reads),
         Some(number) => {
             let uses = uses_of(alloc, templates.template(number).parts.as_slice())?;
@@ -81,8 +75,9 @@ fn parts_of(
     function: &Str,
     reads: Reads,
 ) -> Result<FootprintParts, NoMemory>
-    ensures { IfOk result (λ p. (f : TemplateFile) → AreReads f function.now reads
-        → AreParts f (scope_of scopes.now) function.now p) }
+    ensures { IfOk result (λ p. (f : TemplateFile) (ending : AnyEnding)
+        → AreReads f function.now ending reads
+        → AreParts f (scope_of scopes.now) function.now ending p) }
 {
     if reads.embeds {
         return Ok(FootprintParts {
@@ -109,15 +104,17 @@ fn parts_of(
     })
 }
 
-/// What the pages of the function rest on.
+/// What the pages of the function that end so rest on.
 pub fn footprint(
     alloc: Global,
     scopes: &QueryBlocks,
     templates: &Templates,
     function: &Str,
+    ending: Ending,
 ) -> Result<FootprintParts, NoMemory>
-    ensures { IfOk result (AreParts (file_of templates.now) (scope_of scopes.now) function.now) }
+    ensures { IfOk result
+        (AreParts (file_of templates.now) (scope_of scopes.now) function.now ending) }
 {
-    let reads = reads_of(alloc, templates, function)?;
+    let reads = reads_of(alloc, templates, function, ending)?;
     parts_of(alloc, scopes, function, reads)
 }

@@ -9,6 +9,8 @@ ghost use Rattle.query_spec.specs.Query.{Chain};
 ghost use Rattle.query_spec.specs.Mentions.{IsWellMade};
 ghost use Rattle.query_spec.specs.Rows.{IsRow};
 ghost use Rattle.site_spec.specs.Site.{Scope, InSite, Linked, Collected, SiteEdge};
+ghost use Rattle.tmpl.specs.declared.endings.Ending.{Ending};
+ghost use Rattle.page_spec.specs.declared.PageName.{PageName};
 ghost use Rattle.tmpl.specs.Body.{Body, TemplateFile};
 ghost use Rattle.page_spec.specs.declared.Outcome.{Outcome};
 ghost use Rattle.page_spec.specs.Page.{IsOutcome};
@@ -49,11 +51,11 @@ pub fn site_stays()
         → (v : Value) → Collected G q name v ↔ Collected H q name v }
 {}
 
-/// An edit that doesn't touch the footprint of a function leaves the outcome of each of its terms.
+/// An edit that doesn't touch the footprint of the pages of a function that end alike leaves the outcome of each of them.
 pub fn outcomes_stay()
-    ensures { (G H : DataGraph) (e : Edit) (q : Scope) (f : TemplateFile) (p : Term) (t : Body)
-        (foot : Footprint) → Becomes G e H → HasMadeSources q → IsTemplateOf f p.function t
-        → IsFootprint q p.function t foot → (TouchesFootprint e q foot → ⊥)
+    ensures { (G H : DataGraph) (e : Edit) (q : Scope) (f : TemplateFile) (p : PageName)
+        (t : Body) (foot : Footprint) → Becomes G e H → HasMadeSources q
+        → IsTemplateOf f p.term.function p.ending t → IsFootprint q p.term.function t foot → (TouchesFootprint e q foot → ⊥)
         → (o : Outcome) → IsOutcome (site_of G q) f p o ↔ IsOutcome (site_of H q) f p o }
 {}
 
@@ -62,8 +64,8 @@ pub fn touching_is_decided()
     ensures chain { (e : Edit) (c : Chain) → TouchesChain e c ⊎ (TouchesChain e c → ⊥) }
     ensures footprint { (e : Edit) (q : Scope) (foot : Footprint)
         → TouchesFootprint e q foot ⊎ (TouchesFootprint e q foot → ⊥) }
-    ensures one_template { (f : TemplateFile) (function : Name) (t u : Body)
-        → IsTemplateOf f function t → IsTemplateOf f function u → t ≡ u }
+    ensures one_template { (f : TemplateFile) (function : Name) (ending : Ending) (t u : Body)
+        → IsTemplateOf f function ending t → IsTemplateOf f function ending u → t ≡ u }
     ensures one_footprint { (q : Scope) (function : Name) (t : Body) (foot other : Footprint)
         → IsFootprint q function t foot → IsFootprint q function t other → foot ≡ other }
 {}

@@ -1,6 +1,6 @@
--- What the pages of a function rest on: blocks of the query, labels and collections of the data. An
+-- What the pages of a function that end alike rest on: blocks of the query, labels and collections of the data. An
 -- edit that touches none of these leaves these pages as they are.
-use Rattle.std.specs.Prelude.{◌≡◌, ◌⊎◌, ℕ, Bool, IsTrue, List, [], ◌∷◌, ◌++◌, Some, ⊤, get_or, slice_get}
+use Rattle.std.specs.Prelude.{◌≡◌, ◌⊎◌, ℕ, Bool, IsTrue, List, [], ◌∷◌, ◌++◌, Some, None, ⊤, get_or, slice_get}
 use Rattle.std.specs.Bool.{MatchBool}
 use Rattle.std.specs.List.{flat_map, list_any}
 use Rattle.std.specs.Ordering.{nat_cmp}
@@ -11,8 +11,8 @@ use Rattle.query_spec.specs.Query.{SkolemTerm, made, LinkLabel, quoted, label_va
 use Rattle.site_spec.specs.Site.{Scope, SomeOf, chain, terms_of}
 use Rattle.tmpl.specs.declared.WordRoot.{WordRoot}
 use Rattle.tmpl.specs.declared.WordRoot.TheVariants.{Here, Loop, Collection}
-use Rattle.tmpl.specs.Body.{Body, done, TemplateFile}
-use Rattle.page_spec.specs.Pieces.{First}
+use Rattle.tmpl.specs.declared.endings.Ending.{Ending}
+use Rattle.tmpl.specs.Body.{Body, done, TemplateFile, presented_in}
 use Rattle.tmpl.specs.Expressions.{uses}
 use Rattle.edit_spec.specs.declared.Edit.{Edit}
 use Rattle.edit_spec.specs.Touches.{IsOfLabel, IsOfCollection, TouchesChain}
@@ -57,11 +57,11 @@ named_collections t = flat_map (λ x. collections_at x.expr.root) (uses t)
 abbrev pub has_embed : Body → Bool
 has_embed t = list_any (λ x. x.embeds) (uses t)
 
--- the template of a function: the first of its name, or without one an empty body
-abbrev pub IsTemplateOf : TemplateFile → Name → Body → Type 0
-IsTemplateOf f function t =
-    ((k : ℕ) × First (λ name. name ≡ function) f.functions k × (t ≡ get_or f.bodies k done))
-    ⊎ (((k : ℕ) → First (λ name. name ≡ function) f.functions k → ⊥) × (t ≡ done))
+-- the template of the pages of a function that end so, or without one an empty body
+abbrev pub IsTemplateOf : TemplateFile → Name → Ending → Body → Type 0
+IsTemplateOf f function ending t =
+    ((k : ℕ) × (presented_in f function ending ≡ Some k) × (t ≡ get_or f.bodies k done))
+    ⊎ ((presented_in f function ending ≡ None) × (t ≡ done))
 
 -- a link's label may be this one
 abbrev pub MayBeLabelled : LinkLabel → Name → Type 0

@@ -1,12 +1,15 @@
 -- Which edits can touch the rows of a chain.
-use Rattle.std.specs.Prelude.{◌≡◌, ◌⊎◌, [], Contains, ⊤}
-use Rattle.std.specs.Bool.{MatchBool}
+use Rattle.std.specs.Prelude.{◌≡◌, ◌⊎◌, List, [], ◌++◌, Contains, ⊤}
+use Rattle.std.specs.List.{flat_map}
 use Rattle.rpe.specs.Regex.{Regex, label, any, empty, seq, alt, star}
 use Rattle.rpe.specs.Language.{InLanguage}
 use Rattle.graph_spec.specs.DataGraph.{Name}
 use Rattle.query_spec.specs.declared.Variable.{Variable}
 use Rattle.query_spec.specs.Query.{Operand, variable, constant, PathStep, arc_variable, expression}
-use Rattle.query_spec.specs.Query.{Condition, member, path, compare, one_of, kind, negation, Chain}
+use Rattle.query_spec.specs.Query.{Condition, member, path, compare, one_of, kind, negation, gives, Chain}
+use Rattle.query_spec.specs.declared.Sort.{Sort}
+use Rattle.query_spec.specs.declared.Sort.TheVariants.{Node, Arc, Computed}
+use Rattle.query_spec.specs.Mentions.{own_variables}
 use Rattle.site_spec.specs.Site.{SomeOf}
 use Rattle.edit_spec.specs.declared.Edit.{Edit}
 use Rattle.edit_spec.specs.declared.Edit.TheVariants.{Add, Remove, Enter, Leave}
@@ -43,6 +46,7 @@ FindsNode (compare t o u) x = ⊥
 FindsNode (one_of t vs) x = ⊥
 FindsNode (kind k y) x = ⊥
 FindsNode (negation c) x = ⊥
+FindsNode (gives computes t sign f args) x = ⊥
 
 -- the condition, where it holds, finds x as the label of an edge
 abbrev pub FindsLabel : Condition → Name → Type 0
@@ -53,14 +57,29 @@ FindsLabel (compare t o u) x = ⊥
 FindsLabel (one_of t vs) x = ⊥
 FindsLabel (kind k y) x = ⊥
 FindsLabel (negation c) x = ⊥
+FindsLabel (gives computes t sign f args) x = ⊥
 
--- the condition, where it holds, finds the variable in the data
-abbrev pub Finds : Variable → Condition → Type 0
-Finds v k = MatchBool v.arc (FindsLabel k v.name) (FindsNode k v.name)
+-- what a variable of this sort may be isn't told by the data, or one of the conditions, where they
+-- hold, finds the variable in the data
+abbrev pub IsFoundAs : Sort → Name → List Condition → Type 0
+IsFoundAs Node x conditions = SomeOf (λ k. FindsNode k x) conditions
+IsFoundAs Arc x conditions = SomeOf (λ k. FindsLabel k x) conditions
+IsFoundAs Computed x conditions = ⊤
 
--- each variable is found by some condition that stands outside `not`
-abbrev pub IsGuarded : Chain → Type 0
-IsGuarded c = (v : Variable) → Contains c.variables v → SomeOf (Finds v) c.conditions
+-- the same of a variable
+abbrev pub IsFound : List Condition → Variable → Type 0
+IsFound conditions v = IsFoundAs v.sort v.name conditions
+
+-- each variable is found by some condition that is outside of `not`, and each own one of a NONE by
+-- one of its conditions
+pub record IsGuarded (c : Chain) : Type 0 where
+  pub variables : (v : Variable) → Contains c.variables v → IsFound c.conditions v
+  pub own : (n : List Condition) → Contains c.nones n → (v : Variable)
+      → Contains (own_variables c.variables n) v → IsFound n v
+
+-- the conditions of a chain, those within its NONEs too
+abbrev pub all_conditions : Chain → List Condition
+all_conditions c = c.conditions ++ flat_map (λ n. n) c.nones
 
 -- the expression has the label, or Any
 abbrev pub MayStep : Regex → Name → Type 0
@@ -80,6 +99,7 @@ ReadsLabel l (member c x) = ⊥
 ReadsLabel l (compare t o u) = ⊥
 ReadsLabel l (one_of t vs) = ⊥
 ReadsLabel l (kind k x) = ⊥
+ReadsLabel l (gives computes t sign f args) = ⊥
 
 -- the condition, also under `not`, names the collection
 abbrev pub ReadsCollection : Name → Condition → Type 0
@@ -89,11 +109,12 @@ ReadsCollection c (path t s u) = ⊥
 ReadsCollection c (compare t o u) = ⊥
 ReadsCollection c (one_of t vs) = ⊥
 ReadsCollection c (kind k x) = ⊥
+ReadsCollection c (gives computes t sign f args) = ⊥
 
--- the edit can change the rows of the chain: a variable of it may take any value of the data, or a
--- condition reads what is edited
+-- the edit can change the rows of the chain: a variable of it, or an own one of a NONE, may take any
+-- value of the data, or a condition reads what is edited
 pub data TouchesChain (e : Edit) (c : Chain) : Type 0 where
   by_value : (IsGuarded c → ⊥) → TouchesChain e c
-  by_edge : (l : Name) → IsOfLabel e l → SomeOf (ReadsLabel l) c.conditions → TouchesChain e c
-  by_member : (name : Name) → IsOfCollection e name → SomeOf (ReadsCollection name) c.conditions
-      → TouchesChain e c
+  by_edge : (l : Name) → IsOfLabel e l → SomeOf (ReadsLabel l) (all_conditions c) → TouchesChain e c
+  by_member : (name : Name) → IsOfCollection e name → SomeOf (ReadsCollection name)
+      (all_conditions c) → TouchesChain e c

@@ -5,8 +5,10 @@ use Rattle.rpe.specs.Regex.{Regex, label, any, empty, seq, alt, star}
 use Rattle.graph_spec.specs.DataGraph.{Name}
 use Rattle.query_spec.specs.declared.Variable.{Variable}
 use Rattle.query_spec.specs.Query.{Operand, variable, constant, PathStep, arc_variable, expression}
-use Rattle.query_spec.specs.Query.{Condition, member, path, compare, one_of, kind, negation}
-use Rattle.query_spec.specs.Mentions.{same_name}
+use Rattle.query_spec.specs.Query.{Condition, member, path, compare, one_of, kind, negation, gives}
+use Rattle.query_spec.specs.declared.Sort.{Sort}
+use Rattle.query_spec.specs.declared.Sort.TheVariants.{Node, Arc, Computed}
+use Rattle.query_spec.specs.Mentions.{same_name, is_computed, own_variables}
 use Rattle.edit_spec.specs.declared.Edit.{Edit}
 use Rattle.edit_spec.specs.declared.Edit.TheVariants.{Add, Remove, Enter, Leave}
 
@@ -46,6 +48,7 @@ finds_node x (compare t o u) = false
 finds_node x (one_of t vs) = false
 finds_node x (kind k y) = false
 finds_node x (negation c) = false
+finds_node x (gives computes t sign f args) = false
 
 -- the step is the arc variable x
 abbrev pub is_arc : Name → PathStep → Bool
@@ -60,14 +63,25 @@ finds_label x (compare t o u) = false
 finds_label x (one_of t vs) = false
 finds_label x (kind k y) = false
 finds_label x (negation c) = false
+finds_label x (gives computes t sign f args) = false
+
+-- the condition finds a variable of the sort
+abbrev pub finds_as : Sort → Name → Condition → Bool
+finds_as Arc x k = finds_label x k
+finds_as Node x k = finds_node x k
+finds_as Computed x k = false
 
 -- the condition finds the variable
 abbrev pub finds : Variable → Condition → Bool
-finds v k = if v.arc then finds_label v.name k else finds_node v.name k
+finds v k = finds_as v.sort v.name k
 
--- each variable is found by some condition
+-- calls give the variable its values, or some condition finds it
+abbrev pub is_kept : Variable → List Condition → Bool
+is_kept v conditions = is_computed v.sort || list_any (finds v) conditions
+
+-- each variable is found by some condition, but for those to which calls give values
 abbrev pub is_guarded : List Variable → List Condition → Bool
-is_guarded variables conditions = list_all (λ v. list_any (finds v) conditions) variables
+is_guarded variables conditions = list_all (λ v. is_kept v conditions) variables
 
 -- the step reads the label
 abbrev pub may_read : Name → PathStep → Bool
@@ -82,6 +96,7 @@ reads_label l (member c x) = false
 reads_label l (compare t o u) = false
 reads_label l (one_of t vs) = false
 reads_label l (kind k x) = false
+reads_label l (gives computes t sign f args) = false
 
 -- the condition, also under `not`, names the collection
 abbrev pub reads_collection : Name → Condition → Bool
@@ -91,6 +106,7 @@ reads_collection c (path t s u) = false
 reads_collection c (compare t o u) = false
 reads_collection c (one_of t vs) = false
 reads_collection c (kind k x) = false
+reads_collection c (gives computes t sign f args) = false
 
 -- the condition reads what is edited
 abbrev pub is_concerned : Edit → Condition → Bool
@@ -103,6 +119,15 @@ is_concerned (Leave m) k = reads_collection m.collection k
 abbrev pub touches : Edit → List Variable → List Condition → Bool
 touches e variables conditions = not (is_guarded variables conditions) || list_any (is_concerned e)
     conditions
+
+-- the conditions of a NONE keep each variable of its own
+abbrev pub is_guarded_within : List Variable → List Condition → Bool
+is_guarded_within variables none = is_guarded (own_variables variables none) none
+
+-- the edit can change whether a NONE holds
+abbrev pub touches_none : Edit → List Variable → List Condition → Bool
+touches_none e variables none =
+    list_any (is_concerned e) none || not (is_guarded_within variables none)
 
 -- the edit is of an edge by the label
 abbrev pub is_of_label : Edit → Name → Bool

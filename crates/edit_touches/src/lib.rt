@@ -1,11 +1,11 @@
 //! Whether an edit touches the rows of a chain, or what the pages of a function rest on.
 #![tactic(auto)]
 
-ghost use Rattle.std.specs.Prelude.{◌≡◌, ◌↔◌, ◌<◌, All, IsTrue, length, map};
+ghost use Rattle.std.specs.Prelude.{◌≡◌, ◌↔◌, ◌<◌, All, IfOk, IsTrue, length, map};
 ghost use Rattle.std.specs.List.{list_any};
 ghost use Rattle.query_spec.specs.Query.{Condition as Plain};
 ghost use Rattle.rpe.specs.Reading.{regex_of};
-ghost use Rattle.struql_ast.specs.Reading.{operand_of, step_of, condition_of};
+ghost use Rattle.struql_ast.specs.Reading.{operand_of, step_of, condition_of, none_of};
 ghost use Rattle.query_blocks.specs.Blocks.{scope_of, AreCheckedBlocks};
 ghost use Rattle.edit_spec.specs.Touches.{TouchesChain};
 ghost use Rattle.edit_spec.specs.Footprint.{TouchesFootprint};
@@ -15,10 +15,12 @@ ghost use Rattle.edit_touches.specs.Parts.{footprint_of, TouchesBlock};
 
 use edit_spec::Edit;
 use query_blocks::QueryBlocks;
-use query_spec::Variable;
+use query_parts::own_variables;
+use query_spec::{Sort, Variable};
 use rpe::Rpe;
-use sd_value::Str;
-use struql_ast::{Chain, Condition, Operand, PathStep};
+use sd_value::{NoMemory, Str};
+use std::alloc::Global;
+use struql_ast::{Chain, Condition, NoneOf, Operand, PathStep};
 
 /// What the pages of a function rest on: everything, or these blocks by their numbers, labels and collections.
 #[derive(Debug, Drop)]
@@ -99,6 +101,7 @@ fn finds_node(name: &Str, condition: &Condition) -> bool
         Condition::Compare { .. }
         | Condition::OneOf { .. }
         | Condition::Kind { .. }
+        | Condition::Gives { .. }
         | Condition::Not(_, _) => false,
     }
 }
@@ -112,6 +115,7 @@ fn finds_label(name: &Str, condition: &Condition) -> bool
         | Condition::Compare { .. }
         | Condition::OneOf { .. }
         | Condition::Kind { .. }
+        | Condition::Gives { .. }
         | Condition::Not(_, _) => false,
     }
 }
@@ -119,10 +123,10 @@ fn finds_label(name: &Str, condition: &Condition) -> bool
 fn finds(variable: &Variable, condition: &Condition) -> bool
     ensures { result ≡ tests.finds variable.now (condition_of condition.now) }
 {
-    if variable.arc {
-        finds_label(&variable.name, condition)
-    } else {
-        finds_node(&variable.name, condition)
+    match variable.sort {
+        Sort::Arc => finds_label(&variable.name, condition),
+        Sort::Node => finds_node(&variable.name, condition),
+        Sort::Computed => false,
     }
 }
 
@@ -141,11 +145,49 @@ fn is_guarded(variables: &[Variable], conditions: &[Condition]) -> bool
     ensures { result ≡ tests.is_guarded variables.now (map condition_of conditions.now) }
 {
     for variable in variables {
-        if !is_found(variable, conditions) {
+        if !is_kept(variable, conditions) {
             return false;
         }
     }
     true
+}
+
+// Whether no edit gives the variable a further value, or takes one, without touching the conditions.
+fn is_kept(variable: &Variable, conditions: &[Condition]) -> bool
+    ensures { result ≡ tests.is_kept variable.now (map condition_of conditions.now) }
+{
+    matches!(variable.sort, Sort::Computed) || is_found(variable, conditions)
+}
+
+// Whether the variables of a NONE that are none of the chain's are guarded by its conditions.
+fn is_guarded_within(
+    alloc: Global,
+    variables: &[Variable],
+    none: &NoneOf,
+) -> Result<bool, NoMemory>
+    ensures { IfOk result (λ b. b ≡ tests.is_guarded_within variables.now (none_of none.now)) }
+{
+    let own = own_variables(alloc, variables, &none.conditions)?;
+    Ok(is_guarded(&own, &none.conditions))
+}
+
+fn is_touched_within(
+    alloc: Global,
+    edit: &Edit,
+    variables: &[Variable],
+    nones: &[NoneOf],
+) -> Result<bool, NoMemory>
+    ensures { IfOk result (λ b. b
+        ≡ list_any (tests.touches_none edit.now variables.now) (map none_of nones.now)) }
+{
+    for none in nones {
+        if some_is_concerned(edit, &none.conditions)
+            || !is_guarded_within(alloc, variables, none)?
+        {
+            return Ok(true);
+        }
+    }
+    Ok(false)
 }
 
 fn reads_label(label: &Str, condition: &Condition) -> bool
@@ -157,7 +199,8 @@ fn reads_label(label: &Str, condition: &Condition) -> bool
         Condition::Member { .. }
         | Condition::Compare { .. }
         | Condition::OneOf { .. }
-        | Condition::Kind { .. } => false,
+        | Condition::Kind { .. }
+        | Condition::Gives { .. } => false,
     }
 }
 
@@ -170,7 +213,8 @@ fn reads_collection(name: &Str, condition: &Condition) -> bool
         Condition::Path { .. }
         | Condition::Compare { .. }
         | Condition::OneOf { .. }
-        | Condition::Kind { .. } => false,
+        | Condition::Kind { .. }
+        | Condition::Gives { .. } => false,
     }
 }
 
@@ -204,10 +248,13 @@ fn is_touched(edit: &Edit, variables: &[Variable], conditions: &[Condition]) -> 
 }
 
 /// Whether the edit can change the rows of the chain.
-pub fn touches_chain(chain: &Chain, edit: &Edit) -> bool
-    ensures { IsTrue result ↔ TouchesChain edit.now chain.now }
+pub fn touches_chain(alloc: Global, chain: &Chain, edit: &Edit) -> Result<bool, NoMemory>
+    ensures { IfOk result (λ b. IsTrue b ↔ TouchesChain edit.now chain.now) }
 {
-    is_touched(edit, chain.variables(), chain.conditions())
+    if is_touched(edit, chain.variables(), chain.conditions()) {
+        return Ok(true);
+    }
+    is_touched_within(alloc, edit, chain.variables(), chain.nones())
 }
 
 fn is_of_label(edit: &Edit, label: &Str) -> bool
@@ -250,42 +297,58 @@ fn some_collection(edit: &Edit, names: &[Str]) -> bool
     false
 }
 
-fn touches_block(scopes: &QueryBlocks, number: usize, edit: &Edit) -> bool
+fn touches_block(
+    alloc: Global,
+    scopes: &QueryBlocks,
+    number: usize,
+    edit: &Edit,
+) -> Result<bool, NoMemory>
     requires within { number < length scopes.now.blocks.items }
     requires scoped { AreCheckedBlocks scopes.now.version scopes.now.blocks.items }
-    ensures { IsTrue result ↔ TouchesBlock edit.now (scope_of scopes.now) number }
+    ensures { IfOk result (λ b. IsTrue b ↔ TouchesBlock edit.now (scope_of scopes.now) number) }
 {
-    touches_chain(&scopes.blocks[number].chain, edit)
+    touches_chain(alloc, &scopes.blocks[number].chain, edit)
 }
 
-fn some_block(scopes: &QueryBlocks, numbers: &[usize], edit: &Edit) -> bool
+fn some_block(
+    alloc: Global,
+    scopes: &QueryBlocks,
+    numbers: &[usize],
+    edit: &Edit,
+) -> Result<bool, NoMemory>
     requires within { All (λ i. i < length scopes.now.blocks.items) numbers.now }
     requires scoped { AreCheckedBlocks scopes.now.version scopes.now.blocks.items }
-    ensures { IsTrue result ↔ SomeOf (TouchesBlock edit.now (scope_of scopes.now)) numbers.now }
+    ensures { IfOk result (λ b. IsTrue b
+        ↔ SomeOf (TouchesBlock edit.now (scope_of scopes.now)) numbers.now) }
 {
     for number in numbers {
-        if touches_block(scopes, *number, edit) {
-            return true;
+        if touches_block(alloc, scopes, *number, edit)? {
+            return Ok(true);
         }
     }
-    false
+    Ok(false)
 }
 
 /// Whether the edit touches what the parts say.
-pub fn touches(scopes: &QueryBlocks, parts: &FootprintParts, edit: &Edit) -> bool
+pub fn touches(
+    alloc: Global,
+    scopes: &QueryBlocks,
+    parts: &FootprintParts,
+    edit: &Edit,
+) -> Result<bool, NoMemory>
     requires within { All (λ i. i < length scopes.now.blocks.items) parts.now.blocks.items }
     requires scoped { AreCheckedBlocks scopes.now.version scopes.now.blocks.items }
-    ensures { IsTrue result
-        ↔ TouchesFootprint edit.now (scope_of scopes.now) (footprint_of parts.now) }
+    ensures { IfOk result (λ b. IsTrue b
+        ↔ TouchesFootprint edit.now (scope_of scopes.now) (footprint_of parts.now)) }
 {
     if parts.every {
-        return true;
+        return Ok(true);
     }
-    if some_block(scopes, parts.blocks.as_slice(), edit) {
-        return true;
+    if some_block(alloc, scopes, parts.blocks.as_slice(), edit)? {
+        return Ok(true);
     }
     if some_label(edit, parts.labels.as_slice()) {
-        return true;
+        return Ok(true);
     }
-    some_collection(edit, parts.collections.as_slice())
+    Ok(some_collection(edit, parts.collections.as_slice()))
 }

@@ -516,6 +516,7 @@ fn follows_from<J: Judge>(
                 || (same_tests(*test, Test::IsText) && is_arc(conditions, x))
         }
         Condition::Member { .. } => false,
+        Condition::Gives { .. } => false,
         Condition::Not(_, _) => false,
     }
 }

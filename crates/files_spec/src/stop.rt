@@ -1,11 +1,11 @@
 // Why writing a site stops before its end.
 use run_report::PageKind;
-use sd_value::{NoMemory, Str, Term};
+use sd_value::{NoMemory, Str};
 
 /// Why writing a site stops: a page has no text or no file, the file of a path can't be written, or it was out of memory.
 #[derive(Debug, Drop)]
 pub enum Stop {
-    Faulty { term: Term, kind: PageKind },
+    Faulty { page: Str, kind: PageKind },
     Unwritten { path: Str },
     NoMemory,
 }

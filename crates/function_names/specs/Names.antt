@@ -1,5 +1,6 @@
 -- The names of functions, and how many arguments they take.
-use Rattle.std.specs.Prelude.{◌≤◌, ℕ, List, codes}
+use Rattle.std.specs.Prelude.{◌≤◌, ℕ, List, [], ◌∷◌, Option, codes, find}
+use Rattle.std.specs.Str.{bytes_eq}
 use Rattle.function_spec.specs.declared.Function.{Function}
 use Rattle.function_spec.specs.declared.Function.TheVariants.{Lower, Upper, Fold, Slug, Trim, First, Last, Rest, Before, After, Replace, Join, Length, Number, Decimal, Plus, Minus, Times, Div, Mod, Split}
 
@@ -26,6 +27,16 @@ name_of Times = codes "times"
 name_of Div = codes "div"
 name_of Mod = codes "mod"
 name_of Split = codes "split"
+
+-- all functions
+abbrev pub all_functions : List Function
+all_functions =
+    Lower ∷ Upper ∷ Fold ∷ Slug ∷ Trim ∷ First ∷ Last ∷ Rest ∷ Before ∷ After ∷ Replace ∷ Join
+    ∷ Length ∷ Number ∷ Decimal ∷ Plus ∷ Minus ∷ Times ∷ Div ∷ Mod ∷ Split ∷ []
+
+-- the function of this name, if there is one
+unfoldable pub function_named : List ℕ → Option Function
+function_named w = find (λ f. bytes_eq w (name_of f)) all_functions
 
 -- how many arguments a function takes: at least and at most
 abbrev pub arity_of : Function → ℕ × ℕ

@@ -1,13 +1,13 @@
 // The bytes of a reply.
 ghost use Rattle.std.specs.Prelude.{◌≡◌, ◌++◌, OnOk, OnErr, IfOk, string_bytes};
-ghost use Rattle.http_spec.specs.Replies.{status, page_status, content_type, page_type, allow_line, reply_body};
+ghost use Rattle.http_spec.specs.Replies.{status, page_status, content_type, page_type, media_type, allow_line, reply_body};
 ghost use Rattle.http_spec.specs.Replies.{page_body, connection, head_bytes, reply_bytes, no_memory_bytes};
 
-use address::show;
 use http_spec::{ParsedRequest, RequestKind};
-use page_spec::Outcome;
-use sd_value::{NoMemory, Value};
+use page_spec::Shown;
+use sd_value::{NoMemory, Str};
 use std::alloc::Global;
+use tmpl::Ending;
 
 /// The reply where memory is missing for the one that is due.
 pub const NO_MEMORY_REPLY: [u8; 74] =
@@ -15,38 +15,31 @@ pub const NO_MEMORY_REPLY: [u8; 74] =
 
 const PLAIN: &str = "text/plain; charset=utf-8";
 
-/// Adds the reply to an ask, whose page has this outcome. An `Err` adds nothing.
+/// Adds the reply to an ask, to which this is shown. An `Err` adds nothing.
 pub fn reply(
     alloc: Global,
     ask: &ParsedRequest,
-    outcome: &Outcome,
+    shown: &Shown,
     close: bool,
     out: &mut Vec<u8>,
 ) -> Result<(), NoMemory>
     ensures ok { OnOk result
-        (out.new.items ≡ out.old.items ++ reply_bytes ask.now outcome.now close) }
+        (out.new.items ≡ out.old.items ++ reply_bytes ask.now shown.now close) }
     ensures err { OnErr result (out.new.items ≡ out.old.items) }
 {
     match ask.kind {
-        RequestKind::Get => page_reply(alloc, ask, outcome, close, out),
-        RequestKind::Head => page_reply(alloc, ask, outcome, close, out),
-        RequestKind::BadRequest => respond(alloc, ask, outcome, b"bad request\n", close, out),
+        RequestKind::Get => page_reply(alloc, ask, shown, close, out),
+        RequestKind::Head => page_reply(alloc, ask, shown, close, out),
+        RequestKind::BadRequest => respond(alloc, ask, shown, b"bad request\n", close, out),
         RequestKind::Misdirected => respond(
             alloc,
             ask,
-            outcome,
+            shown,
             b"misdirected request\n",
             close,
             out,
         ),
-        RequestKind::WrongMethod => respond(
-            alloc,
-            ask,
-            outcome,
-            b"method not allowed\n",
-            close,
-            out,
-        ),
+        RequestKind::WrongMethod => respond(alloc, ask, shown, b"method not allowed\n", close, out),
     }
 }
 
@@ -54,32 +47,34 @@ pub fn reply(
 fn page_reply(
     alloc: Global,
     ask: &ParsedRequest,
-    outcome: &Outcome,
+    shown: &Shown,
     close: bool,
     out: &mut Vec<u8>,
 ) -> Result<(), NoMemory>
-    requires { reply_body ask.now.kind outcome.now ≡ page_body outcome.now }
+    requires { reply_body ask.now.kind shown.now ≡ page_body shown.now }
     ensures ok { OnOk result
-        (out.new.items ≡ out.old.items ++ reply_bytes ask.now outcome.now close) }
+        (out.new.items ≡ out.old.items ++ reply_bytes ask.now shown.now close) }
     ensures err { OnErr result (out.new.items ≡ out.old.items) }
 {
-    match outcome {
-        Outcome::Page(text) => respond(alloc, ask, outcome, text.bytes(), close, out),
-        Outcome::Missing => respond(alloc, ask, outcome, b"not found\n", close, out),
-        Outcome::Cyclic(value) => {
-            let body = cyclic_body(alloc, value)?;
-            respond(alloc, ask, outcome, body.as_slice(), close, out)
+    match shown {
+        Shown::Page(text, _) | Shown::Missing(Some(text)) => {
+            respond(alloc, ask, shown, text.bytes(), close, out)
         }
-        Outcome::TooLong => respond(alloc, ask, outcome, b"page too long\n", close, out),
+        Shown::Missing(None) => respond(alloc, ask, shown, b"not found\n", close, out),
+        Shown::Cyclic(at) => {
+            let body = cyclic_body(alloc, at)?;
+            respond(alloc, ask, shown, body.as_slice(), close, out)
+        }
+        Shown::TooLong => respond(alloc, ask, shown, b"page too long\n", close, out),
     }
 }
 
-/// The body that names the value at which embedding comes back.
-fn cyclic_body(alloc: Global, value: &Value) -> Result<Vec<u8>, NoMemory>
-    ensures { IfOk result (λ body. body.items ≡ page_body (Outcome.Cyclic value.now)) }
+/// The body that names the value at which embedding comes round again.
+fn cyclic_body(alloc: Global, at: &Str) -> Result<Vec<u8>, NoMemory>
+    ensures { IfOk result (λ body. body.items ≡ page_body (Shown.Cyclic at.now)) }
 {
     let mut body = Vec::from_slice(alloc, b"cyclic embedding at ")?;
-    show(alloc, value, &mut body)?;
+    body.extend_from_slice(at.bytes())?;
     body.push(b'\n')?;
     Ok(body)
 }
@@ -88,20 +83,20 @@ fn cyclic_body(alloc: Global, value: &Value) -> Result<Vec<u8>, NoMemory>
 fn respond(
     alloc: Global,
     ask: &ParsedRequest,
-    outcome: &Outcome,
+    shown: &Shown,
     body: &[u8],
     close: bool,
     out: &mut Vec<u8>,
 ) -> Result<(), NoMemory>
-    requires { body.now ≡ reply_body ask.now.kind outcome.now }
+    requires { body.now ≡ reply_body ask.now.kind shown.now }
     ensures ok { OnOk result
-        (out.new.items ≡ out.old.items ++ reply_bytes ask.now outcome.now close) }
+        (out.new.items ≡ out.old.items ++ reply_bytes ask.now shown.now close) }
     ensures err { OnErr result (out.new.items ≡ out.old.items) }
 {
     let head = head(
         alloc,
-        status(ask.kind, outcome),
-        content_type(ask.kind, outcome),
+        status(ask.kind, shown),
+        content_type(ask.kind, shown),
         allow_line(ask.kind),
         body.len(),
         close,
@@ -113,49 +108,68 @@ fn respond(
     Ok(())
 }
 
-fn status(kind: RequestKind, outcome: &Outcome) -> &'static str
-    ensures { result.now ≡ status kind outcome.now }
+fn status(kind: RequestKind, shown: &Shown) -> &'static str
+    ensures { result.now ≡ status kind shown.now }
 {
     match kind {
-        RequestKind::Get => page_status(outcome),
-        RequestKind::Head => page_status(outcome),
+        RequestKind::Get => page_status(shown),
+        RequestKind::Head => page_status(shown),
         RequestKind::BadRequest => "400 Bad Request",
         RequestKind::Misdirected => "421 Misdirected Request",
         RequestKind::WrongMethod => "405 Method Not Allowed",
     }
 }
 
-fn page_status(outcome: &Outcome) -> &'static str
-    ensures { result.now ≡ page_status outcome.now }
+fn page_status(shown: &Shown) -> &'static str
+    ensures { result.now ≡ page_status shown.now }
 {
-    match outcome {
-        Outcome::Page(_) => "200 OK",
-        Outcome::Missing => "404 Not Found",
-        Outcome::Cyclic(_) => "500 Internal Server Error",
-        Outcome::TooLong => "500 Internal Server Error",
+    match shown {
+        Shown::Page(..) => "200 OK",
+        Shown::Missing(_) => "404 Not Found",
+        Shown::Cyclic(_) => "500 Internal Server Error",
+        Shown::TooLong => "500 Internal Server Error",
     }
 }
 
-fn content_type(kind: RequestKind, outcome: &Outcome) -> &'static str
-    ensures { result.now ≡ content_type kind outcome.now }
+fn content_type(kind: RequestKind, shown: &Shown) -> &'static str
+    ensures { result.now ≡ content_type kind shown.now }
 {
     match kind {
-        RequestKind::Get => page_type(outcome),
-        RequestKind::Head => page_type(outcome),
+        RequestKind::Get => page_type(shown),
+        RequestKind::Head => page_type(shown),
         RequestKind::BadRequest => PLAIN,
         RequestKind::Misdirected => PLAIN,
         RequestKind::WrongMethod => PLAIN,
     }
 }
 
-fn page_type(outcome: &Outcome) -> &'static str
-    ensures { result.now ≡ page_type outcome.now }
+fn page_type(shown: &Shown) -> &'static str
+    ensures { result.now ≡ page_type shown.now }
 {
-    match outcome {
-        Outcome::Page(_) => "text/html; charset=utf-8",
-        Outcome::Missing => PLAIN,
-        Outcome::Cyclic(_) => PLAIN,
-        Outcome::TooLong => PLAIN,
+    match shown {
+        Shown::Page(_, ending) => media_type(*ending),
+        Shown::Missing(Some(_)) => media_type(Ending::Html),
+        Shown::Missing(None) => PLAIN,
+        Shown::Cyclic(_) => PLAIN,
+        Shown::TooLong => PLAIN,
+    }
+}
+
+/// The type of a text by its page's ending.
+fn media_type(ending: Ending) -> &'static str
+    ensures { result.now ≡ media_type ending }
+{
+    match ending {
+        Ending::Html => "text/html; charset=utf-8",
+        Ending::Bib => "application/x-bibtex; charset=utf-8",
+        Ending::Css => "text/css; charset=utf-8",
+        Ending::Csv => "text/csv; charset=utf-8",
+        Ending::Ics => "text/calendar; charset=utf-8",
+        Ending::Js => "text/javascript; charset=utf-8",
+        Ending::Json => "application/json",
+        Ending::Svg => "image/svg+xml",
+        Ending::Txt => PLAIN,
+        Ending::Xml => "application/xml; charset=utf-8",
     }
 }
 

@@ -1,10 +1,10 @@
 -- What a connection is sent for the bytes that came of it.
 use Rattle.std.specs.Prelude.{◌≡◌, ℕ, ◌-◌, ◌<◌, ◌≤◌, ◌⊎◌, Bool, true, false, ◌||◌, ◌==◌, List, []}
 use Rattle.std.specs.Prelude.{◌∷◌, ◌++◌}
-use Rattle.std.specs.Prelude.{length, MatchBool, ⊤, Option}
+use Rattle.std.specs.Prelude.{length, MatchBool, ⊤, Option, None}
 use Rattle.httparse.specs.Grammar.{RequestHead}
-use Rattle.page_spec.specs.declared.Outcome.{Outcome}
-use Rattle.page_spec.specs.declared.Outcome.TheVariants.{Missing}
+use Rattle.page_spec.specs.declared.Shown.{Shown}
+use Rattle.page_spec.specs.declared.Shown.TheVariants.{Missing}
 use Rattle.http_spec.specs.declared.RequestKind.{RequestKind}
 use Rattle.http_spec.specs.declared.RequestKind.TheVariants.{Get, Head, BadRequest, Misdirected, WrongMethod}
 use Rattle.http_spec.specs.declared.Standing.{Standing}
@@ -14,30 +14,30 @@ use Rattle.http_spec.specs.Heads.{max_head, ReadsHead, HasNoHead, AreLineEnds, C
 use Rattle.http_spec.specs.Replies.{reply_bytes, no_memory_bytes}
 use Rattle.http_spec.specs.Streams.{Timed, Request, bytes_in, IsCutTo}
 
--- What is shown: the hosts between these commas alone, or any, and which outcome each target has.
+-- What is shown: the hosts between these commas alone, or any, and what each target shows.
 pub record Showing : Type 1 where
   pub hosts : Option (List ℕ)
-  pub outcome : List ℕ → Outcome → Type 0
+  pub shows : List ℕ → Shown → Type 0
 
--- each target has at most one outcome
+-- each target shows at most one thing
 abbrev pub HasOneOutcome : Showing → Type 0
 HasOneOutcome page =
-    (target : List ℕ) (o p : Outcome) → page.outcome target o → page.outcome target p → o ≡ p
+    (target : List ℕ) (o p : Shown) → page.shows target o → page.shows target p → o ≡ p
 
 module _ (page : Showing) where
-  -- the outcome that the reply shows; where no page is looked up it may be any
-  abbrev pub IsLookedUp : RequestKind → List ℕ → Outcome → Type 0
-  IsLookedUp Get target outcome = page.outcome target outcome
-  IsLookedUp Head target outcome = page.outcome target outcome
-  IsLookedUp BadRequest target outcome = ⊤
-  IsLookedUp Misdirected target outcome = ⊤
-  IsLookedUp WrongMethod target outcome = ⊤
+  -- what the reply shows; where no page is looked up it may be anything
+  abbrev pub IsLookedUp : RequestKind → List ℕ → Shown → Type 0
+  IsLookedUp Get target shown = page.shows target shown
+  IsLookedUp Head target shown = page.shows target shown
+  IsLookedUp BadRequest target shown = ⊤
+  IsLookedUp Misdirected target shown = ⊤
+  IsLookedUp WrongMethod target shown = ⊤
 
   -- the bytes are the reply to this head; last says that the connection may have no further one
   abbrev pub IsReply : RequestHead → Bool → List ℕ → Type 0
   IsReply h last bytes =
-      (outcome : Outcome) × IsLookedUp (ask_of page.hosts h).kind h.target outcome
-      × (bytes ≡ reply_bytes (ask_of page.hosts h) outcome (last || (ask_of page.hosts h).close))
+      (shown : Shown) × IsLookedUp (ask_of page.hosts h).kind h.target shown
+      × (bytes ≡ reply_bytes (ask_of page.hosts h) shown (last || (ask_of page.hosts h).close))
 
   -- the connection closes after the reply to this head, where it may still have `left` replies
   abbrev pub closes_after : ℕ → RequestHead → Bool
@@ -59,7 +59,7 @@ module _ {D : Type 0} (page : D → Showing) where
 
 -- the 400 for bytes that are no head
 abbrev pub refusal : List ℕ
-refusal = reply_bytes bad_request Missing true
+refusal = reply_bytes bad_request (Missing None) true
 
 -- the rest may still grow to a head
 abbrev pub IsWaiting : List ℕ → Type 0

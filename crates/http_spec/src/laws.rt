@@ -7,7 +7,7 @@ ghost use Rattle.http_spec.specs.Sessions.{Showing, HasOneOutcome, AnswersStream
 
 use crate::Standing;
 
-/// Pages over data that may change: which outcome each target has while some data are current.
+/// Pages over data that may change: what each target shows while some data are current.
 pub trait SomePages {
     ghost Current: { Type 0 };
 

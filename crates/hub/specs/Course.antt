@@ -1,8 +1,7 @@
 -- The course of a run, one step after another.
 use Rattle.std.specs.Prelude.{◌≡◌, ◌⊎◌, ℕ, Bool, List, [], ◌∷◌, ◌++◌, length, Option}
-use Rattle.sd_value.specs.declared.Term.{Term}
+use Rattle.page_spec.specs.declared.PageName.{PageName}
 use Rattle.tmpl.specs.Body.{TemplateFile}
-use Rattle.page_spec.specs.Address.{TermOf}
 use Rattle.page_spec.specs.Site.{Site}
 use Rattle.http_spec.specs.Sessions.{Showing}
 use Rattle.happenings.specs.Happening.{Happening, Given, NextFailed}
@@ -11,7 +10,7 @@ use Rattle.wire.specs.Noted.{AreAccountedFor}
 use Rattle.happenings.specs.declared.event.WireEvent.{WireEvent}
 use Rattle.happenings.specs.declared.event.WireEvent.TheVariants.{Change}
 use Rattle.serving_spec.specs.Changes.{text_of, refused_of}
-use Rattle.serving_spec.specs.Made.{Made}
+use Rattle.serving_spec.specs.Made.{Made, finds_in}
 use Rattle.serving_spec.specs.Shown.{shown_in}
 use Rattle.hub.specs.Turns.{At, Turned, state_after, Keeps}
 use Rattle.serving_spec.specs.Openings.{greatest_after, opened_after}
@@ -31,25 +30,25 @@ pub record Scene (D C : Type 0) : Type 0 where
   pub refused : ℕ
   pub cache : C
 
--- what the pages of a run are: outcomes, the term of a target, which texts are accepted, and what texts and look-ups make
+-- what the pages of a run are: what targets show, which pages are looked up for them, which texts are accepted, and what texts and look-ups make
 -- of their state and of what they keep
 pub record Rules (D C : Type 0) : Type 1 where
   pub Page : D → Showing
-  pub Names : List ℕ → Term → Type 0
+  pub Finds : D → List ℕ → List PageName → Type 0
   pub changed : D → List ℕ → D
   pub accepts : D → List ℕ → Bool
-  pub Looks : D → C → Term → C → Type 0
+  pub Looks : D → C → PageName → C → Type 0
   pub Renews : D → List ℕ → C → C → Type 0
   pub found : C → ℕ
 
 -- the rules of pages that are shown for an origin
 abbrev pub rules_under : {D C : Type 0} → Origin → (D → Site) → (D → TemplateFile)
-    → (D → List ℕ → D) → (D → List ℕ → Bool) → (D → C → Term → C → Type 0)
+    → (D → List ℕ → D) → (D → List ℕ → Bool) → (D → C → PageName → C → Type 0)
     → (D → List ℕ → C → C → Type 0) → (C → ℕ)
     → Rules D C
 rules_under origin site templates changed accepts Looks Renews found = record {
   Page = shown_in origin site templates;
-  Names = TermOf origin.root;
+  Finds = finds_in site templates;
   changed = changed;
   accepts = accepts;
   Looks = Looks;
@@ -65,7 +64,7 @@ accounts_of s number = (s.ats number).account
 pub record Passes {D C : Type 0} (rules : Rules D C) (limit : ℕ) (event : WireEvent)
     (before after : Scene D C) : Type 0 where
   pub made : Made
-  pub turned : Turned (rules.Page before.current) rules.Names limit before.greatest event made
+  pub turned : Turned (rules.Page before.current) (rules.Finds before.current) limit before.greatest event made
       before.ats after.ats
   pub current : after.current ≡ state_after rules.changed event before.current
   pub greatest : after.greatest ≡ greatest_after event before.greatest

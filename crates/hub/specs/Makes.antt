@@ -1,35 +1,41 @@
 -- What a step makes, by the heads that it answers.
 use Rattle.std.specs.Prelude.{◌≡◌, ◌⊎◌, ℕ, List, [], ◌∷◌, ◌++◌, Option}
 use Rattle.httparse.specs.Grammar.{RequestHead}
-use Rattle.sd_value.specs.declared.Term.{Term}
+use Rattle.page_spec.specs.declared.PageName.{PageName}
 use Rattle.http_spec.specs.declared.RequestKind.{RequestKind}
 use Rattle.http_spec.specs.declared.Standing.{Standing}
 use Rattle.http_spec.specs.declared.Standing.TheVariants.{Open, Closed, Short}
 use Rattle.http_spec.specs.Asks.{ask_of}
 use Rattle.serving_spec.specs.Made.{Made, replies_in, LooksUp, MayLookUp}
 
--- what is looked up for an ask, where it may be out of memory for the reply: then it may be looked up or not
-abbrev pub LooksFor : (List ℕ → Term → Type 0) → Standing → RequestKind → List ℕ → List Term
+-- none or some first of the pages that are looked up for an ask
+abbrev pub LooksFirst : (List ℕ → List PageName → Type 0) → RequestKind → List ℕ → List PageName → Type 0
+LooksFirst Finds kind target pages =
+    (pages ≡ [])
+    ⊎ ((rest : List PageName) × LooksUp Finds kind target (pages ++ rest))
+
+-- what is looked up for an ask, where it may be out of memory for the reply: then some of it may be missing
+abbrev pub LooksFor : (List ℕ → List PageName → Type 0) → Standing → RequestKind → List ℕ → List PageName
     → Type 0
-LooksFor Names Open kind target terms = LooksUp Names kind target terms
-LooksFor Names Closed kind target terms = LooksUp Names kind target terms
-LooksFor Names Short kind target terms = (terms ≡ []) ⊎ LooksUp Names kind target terms
+LooksFor Finds Open kind target pages = LooksUp Finds kind target pages
+LooksFor Finds Closed kind target pages = LooksUp Finds kind target pages
+LooksFor Finds Short kind target pages = LooksFirst Finds kind target pages
 
 -- what is looked up for these heads, one after another, where requests for these hosts are answered
-abbrev pub LooksUpAll : Option (List ℕ) → (List ℕ → Term → Type 0) → List RequestHead → List Term
+abbrev pub LooksUpAll : Option (List ℕ) → (List ℕ → List PageName → Type 0) → List RequestHead → List PageName
     → Type 0
-LooksUpAll hosts Names [] terms = terms ≡ []
-LooksUpAll hosts Names (h ∷ heads) terms =
-    (first : List Term) × (others : List Term)
-    × LooksUp Names (ask_of hosts h).kind h.target first × LooksUpAll hosts Names heads others
-    × (terms ≡ first ++ others)
+LooksUpAll hosts Finds [] pages = pages ≡ []
+LooksUpAll hosts Finds (h ∷ heads) pages =
+    (first : List PageName) × (others : List PageName)
+    × LooksUp Finds (ask_of hosts h).kind h.target first × LooksUpAll hosts Finds heads others
+    × (pages ≡ first ++ others)
 
 -- what is made where these heads are answered by these replies
-pub record Makes (hosts : Option (List ℕ)) (Names : List ℕ → Term → Type 0) (would : Standing)
+pub record Makes (hosts : Option (List ℕ)) (Finds : List ℕ → List PageName → Type 0) (would : Standing)
     (heads : List RequestHead) (replies : List (List ℕ)) (made : Made) : Type 0 where
-  pub looked : List Term
-  pub extra : List Term
+  pub looked : List PageName
+  pub extra : List PageName
   pub count : made.replies ≡ replies_in would replies
-  pub look_ups : LooksUpAll hosts Names heads looked
+  pub look_ups : LooksUpAll hosts Finds heads looked
   pub may : MayLookUp would extra
-  pub terms : made.terms ≡ looked ++ extra
+  pub pages : made.pages ≡ looked ++ extra

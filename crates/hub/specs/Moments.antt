@@ -1,6 +1,6 @@
 -- Where a connection is in a run of the hub: what holds of it after each list of events.
 use Rattle.std.specs.Prelude.{◌≡◌, ◌≢◌, ◌+◌, ◌<◌, ◌≤◌, ◌⊎◌, ℕ, Bool, false, List, length, Option, Some, None, ⊤}
-use Rattle.sd_value.specs.declared.Term.{Term}
+use Rattle.page_spec.specs.declared.PageName.{PageName}
 use Rattle.http_spec.specs.declared.Standing.TheVariants.{Open}
 use Rattle.http_spec.specs.Heads.{HasNoHead, max_head}
 use Rattle.http_spec.specs.Sessions.{Showing, Session}
@@ -14,22 +14,22 @@ use Rattle.serving_spec.specs.Sent.{FrontOf, SettledBy}
 use Rattle.hub.specs.Turns.{At, seen_of}
 
 -- what the wire reports of a connection is settled by what came of it, and this is counted of it
-abbrev pub SettledAt : {D : Type 0} → (D → Showing) → (List ℕ → Term → Type 0) → ℕ → Counts D
+abbrev pub SettledAt : {D : Type 0} → (D → Showing) → (D → List ℕ → List PageName → Type 0) → ℕ → Counts D
     → List (Timed D) → Bool → At → At → Type 0
-SettledAt page Names limit counted stream ended first now =
-    SettledBy (HasCounts page Names limit counted) stream ended (seen_of first) (seen_of now)
+SettledAt page Finds limit counted stream ended first now =
+    SettledBy (HasCounts page Finds limit counted) stream ended (seen_of first) (seen_of now)
 
 -- the same, and nothing more is sent: an answer shut it, or a send failed
-abbrev pub IsOverAt : {D : Type 0} → (D → Showing) → (List ℕ → Term → Type 0) → ℕ → Counts D
+abbrev pub IsOverAt : {D : Type 0} → (D → Showing) → (D → List ℕ → List PageName → Type 0) → ℕ → Counts D
     → List (Timed D) → At → At → Type 0
-IsOverAt page Names limit counted stream first now =
-    ((all : AllSent (HasCounts page Names limit counted stream false) (seen_of first) (seen_of now))
+IsOverAt page Finds limit counted stream first now =
+    ((all : AllSent (HasCounts page Finds limit counted stream false) (seen_of first) (seen_of now))
     × (all.standing ≢ Open))
-    ⊎ CutOff (FrontOf (HasCounts page Names limit counted) stream false) (seen_of first)
+    ⊎ CutOff (FrontOf (HasCounts page Finds limit counted) stream false) (seen_of first)
     (seen_of now)
 
 -- the connection is open: the replies to its whole heads were sent, and none closed it
-pub record IsOpenAt {D : Type 0} (page : D → Showing) (Names : List ℕ → Term → Type 0) (limit : ℕ)
+pub record IsOpenAt {D : Type 0} (page : D → Showing) (Finds : D → List ℕ → List PageName → Type 0) (limit : ℕ)
     (counted : Counts D) (stream : List (Timed D)) (line : Line) (first now : At) : Type 0 where
   pub requests : List (Request D)
   pub rest : List (Timed D)
@@ -43,15 +43,15 @@ pub record IsOpenAt {D : Type 0} (page : D → Showing) (Names : List ℕ → Te
   pub account : now.account ≡ gain first.account replies
   pub faults : now.faults ≡ first.faults
   pub count : counted.replies ≡ length replies
-  pub looks : LooksUpFor page Names requests counted.looked
+  pub looks : LooksUpFor page Finds requests counted.looked
 
 -- a connection whose bytes still come: it is open, or over
-abbrev pub StandsComing : {D : Type 0} → (D → Showing) → (List ℕ → Term → Type 0) → ℕ → Counts D
+abbrev pub StandsComing : {D : Type 0} → (D → Showing) → (D → List ℕ → List PageName → Type 0) → ℕ → Counts D
     → List (Timed D) → Option Line → At → At → Type 0
-StandsComing page Names limit counted stream (Some line) first now =
-    IsOpenAt page Names limit counted stream line first now
-StandsComing page Names limit counted stream None first now =
-    IsOverAt page Names limit counted stream first now
+StandsComing page Finds limit counted stream (Some line) first now =
+    IsOpenAt page Finds limit counted stream line first now
+StandsComing page Finds limit counted stream None first now =
+    IsOverAt page Finds limit counted stream first now
 
 -- the number is not above the greatest that was opened
 abbrev pub IsBelow : ℕ → Option ℕ → Type 0
@@ -59,14 +59,14 @@ IsBelow number None = ⊥
 IsBelow number (Some greatest) = number ≤ greatest
 
 -- where a connection is, of which this came, and this was counted
-abbrev pub StandsFor : {D : Type 0} → (D → Showing) → (List ℕ → Term → Type 0) → ℕ → Counts D
+abbrev pub StandsFor : {D : Type 0} → (D → Showing) → (D → List ℕ → List PageName → Type 0) → ℕ → Counts D
     → Input D → At → At → Type 0
-StandsFor page Names limit counted Unopened first now =
+StandsFor page Finds limit counted Unopened first now =
     (first.line ≡ None) × (now ≡ first) × (counted ≡ no_counts)
-StandsFor page Names limit counted (Coming stream) first now =
-    StandsComing page Names limit counted stream now.line first now
-StandsFor page Names limit counted (Over ended stream) first now =
-    (now.line ≡ None) × SettledAt page Names limit counted stream ended first now
+StandsFor page Finds limit counted (Coming stream) first now =
+    StandsComing page Finds limit counted stream now.line first now
+StandsFor page Finds limit counted (Over ended stream) first now =
+    (now.line ≡ None) × SettledAt page Finds limit counted stream ended first now
 
 -- a connection of which something came was opened before
 abbrev pub WasOpened : {D : Type 0} → ℕ → Option ℕ → Input D → Type 0
@@ -75,13 +75,13 @@ WasOpened number greatest (Coming stream) = IsBelow number greatest
 WasOpened number greatest (Over ended stream) = IsBelow number greatest
 
 -- what holds of each connection after each list of events, where this is counted of it
-pub record CountedStands {D : Type 0} (page : D → Showing) (Names : List ℕ → Term → Type 0)
+pub record CountedStands {D : Type 0} (page : D → Showing) (Finds : D → List ℕ → List PageName → Type 0)
     (limit number : ℕ) (moment : Moment D) (counted : Counts D) (first now : At) : Type 0 where
-  pub stands : StandsFor page Names limit counted moment.input first now
+  pub stands : StandsFor page Finds limit counted moment.input first now
   pub opened : WasOpened number moment.greatest moment.input
 
 -- the same, where something is counted of it
-pub record Stands {D : Type 0} (page : D → Showing) (Names : List ℕ → Term → Type 0)
+pub record Stands {D : Type 0} (page : D → Showing) (Finds : D → List ℕ → List PageName → Type 0)
     (limit number : ℕ) (moment : Moment D) (first now : At) : Type 0 where
   pub counted : Counts D
-  pub is : CountedStands page Names limit number moment counted first now
+  pub is : CountedStands page Finds limit number moment counted first now

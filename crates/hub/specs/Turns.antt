@@ -3,7 +3,7 @@ use Rattle.std.specs.Prelude.{◌≡◌, ◌≢◌, ℕ, Bool, true, false, ◌�
 use Rattle.edge_io.specs.Counts.{Rose}
 use Rattle.edge_io.specs.declared.sink.Failed.{Failed}
 use Rattle.httparse.specs.Grammar.{RequestHead}
-use Rattle.sd_value.specs.declared.Term.{Term}
+use Rattle.page_spec.specs.declared.PageName.{PageName}
 use Rattle.http_spec.specs.declared.ParsedRequest.{ParsedRequest}
 use Rattle.http_spec.specs.declared.Standing.{Standing}
 use Rattle.http_spec.specs.declared.Standing.TheVariants.{Open, Closed, Short}
@@ -77,35 +77,35 @@ pub record FrontSteps (page : Showing) (line : Line) (piece : List ℕ) (heads :
   pub steps : Steps page line front heads would held [] replies
 
 -- the replies to a piece, and what they make
-abbrev pub PieceReplies : Showing → (List ℕ → Term → Type 0) → Line → List ℕ → Made → Line
+abbrev pub PieceReplies : Showing → (List ℕ → List PageName → Type 0) → Line → List ℕ → Made → Line
     → Standing → List (List ℕ) → Type 0
-PieceReplies page Names line piece made held would replies =
+PieceReplies page Finds line piece made held would replies =
     (heads : List RequestHead) × Steps page line piece heads would held [] replies
-    × Makes page.hosts Names would heads replies made
+    × Makes page.hosts Finds would heads replies made
 
 -- the same of a piece at whose front a reply failed to be sent
-abbrev pub FrontReplies : Showing → (List ℕ → Term → Type 0) → Line → List ℕ → Made → Standing
+abbrev pub FrontReplies : Showing → (List ℕ → List PageName → Type 0) → Line → List ℕ → Made → Standing
     → List (List ℕ) → Type 0
-FrontReplies page Names line piece made would replies =
+FrontReplies page Finds line piece made would replies =
     (heads : List RequestHead) × FrontSteps page line piece heads would replies
-    × Makes page.hosts Names would heads replies made
+    × Makes page.hosts Finds would heads replies made
 
 -- a piece of an open connection's bytes came: its replies were sent
-abbrev pub IsPieceServed : Showing → (List ℕ → Term → Type 0) → Line → List ℕ → Made → StepEnd
+abbrev pub IsPieceServed : Showing → (List ℕ → List PageName → Type 0) → Line → List ℕ → Made → StepEnd
     → Line → Option Account → Option Account → ℕ → ℕ → Type 0
-IsPieceServed page Names line piece made end held old new faults later =
-    IsDelivered (PieceReplies page Names line piece made held)
-    (FrontReplies page Names line piece made) end old new faults later
+IsPieceServed page Finds line piece made end held old new faults later =
+    IsDelivered (PieceReplies page Finds line piece made held)
+    (FrontReplies page Finds line piece made) end old new faults later
 
 -- one reply to an ask, and what it makes
-pub record Reply (page : Showing) (Names : List ℕ → Term → Type 0) (ask : ParsedRequest)
+pub record Reply (page : Showing) (Finds : List ℕ → List PageName → Type 0) (ask : ParsedRequest)
     (target : List ℕ)
     (last : Bool) (made : Made) (would : Standing) (replies : List (List ℕ)) : Type 0 where
   pub reply : List ℕ
   pub one : replies ≡ reply ∷ []
   pub answers : Answered page ask target last would [] (reply ∷ [])
   pub count : made.replies ≡ replies_in would (reply ∷ [])
-  pub looks : LooksFor Names would ask.kind target made.terms
+  pub looks : LooksFor Finds would ask.kind target made.pages
 
 -- one send of a reply, after which the connection closes or stays open
 abbrev pub IsSent : Bool → List ℕ → StepEnd → Option Account → Option Account → ℕ → ℕ → Type 0
@@ -118,10 +118,10 @@ IsSent close reply (Err failed) old new faults later =
     (some : ℕ) × (new ≡ send_to old (take some reply)) × Rose faults later
 
 -- a reply to an ask was sent
-abbrev pub IsAnswered : Showing → (List ℕ → Term → Type 0) → ParsedRequest → List ℕ → Bool → Made
+abbrev pub IsAnswered : Showing → (List ℕ → List PageName → Type 0) → ParsedRequest → List ℕ → Bool → Made
     → StepEnd → Option Account → Option Account → ℕ → ℕ → Type 0
-IsAnswered page Names ask target last made end old new faults later =
-    IsDelivered (Reply page Names ask target last made) (Reply page Names ask target last made)
+IsAnswered page Finds ask target last made end old new faults later =
+    IsDelivered (Reply page Finds ask target last made) (Reply page Finds ask target last made)
     end old new faults later
 
 -- what is sent at the end of the input, where nothing is looked up
@@ -129,7 +129,7 @@ pub record EndSteps (rest : List ℕ) (made : Made) (would : Standing)
     (replies : List (List ℕ)) : Type 0 where
   pub steps : AtEnd rest would replies
   pub count : made.replies ≡ replies_in would replies
-  pub none : made.terms ≡ []
+  pub none : made.pages ≡ []
 
 -- the end of an open connection's input came: what is due then was sent
 abbrev pub IsFinished : List ℕ → Made → StepEnd → Option Account → Option Account → ℕ → ℕ → Type 0
@@ -151,12 +151,12 @@ Opens limit before after =
     × (after.account ≡ account_after end account) × (after.line ≡ None))
 
 -- a piece came of a connection, which is open or not
-abbrev pub TakesPiece : Showing → (List ℕ → Term → Type 0) → List ℕ → Made → Option Line → At
+abbrev pub TakesPiece : Showing → (List ℕ → List PageName → Type 0) → List ℕ → Made → Option Line → At
     → At → Type 0
-TakesPiece page Names piece made None before after = (after ≡ before) × (made ≡ nothing)
-TakesPiece page Names piece made (Some line) before after =
+TakesPiece page Finds piece made None before after = (after ≡ before) × (made ≡ nothing)
+TakesPiece page Finds piece made (Some line) before after =
     (end : StepEnd) × (held : Line) × (account : Option Account)
-    × IsPieceServed page Names line piece made end held before.account account before.faults
+    × IsPieceServed page Finds line piece made end held before.account account before.faults
     after.faults
     × (after.account ≡ account_after end account) × (after.line ≡ kept_after end held)
 
@@ -172,24 +172,24 @@ Finishes made (Some line) before after =
 abbrev pub OthersStay : ℕ → (ℕ → At) → (ℕ → At) → Type 0
 OthersStay number before after = (other : ℕ) → other ≢ number → after other ≡ before other
 
--- What the event does to all connections, and what it makes. page is the outcomes in the data that are current, and Names
--- says which term a target names.
-abbrev pub Turned : Showing → (List ℕ → Term → Type 0) → ℕ → Option ℕ → WireEvent → Made
+-- What the event does to all connections, and what it makes. page is the outcomes in the data that are current, and Finds
+-- says which pages are looked up for a target.
+abbrev pub Turned : Showing → (List ℕ → List PageName → Type 0) → ℕ → Option ℕ → WireEvent → Made
     → (ℕ → At) → (ℕ → At) → Type 0
-Turned page Names limit greatest (Opened number) made before after =
+Turned page Finds limit greatest (Opened number) made before after =
     MatchBool (counts greatest number) (Opens limit (before number) (after number))
     (after number ≡ before number) × OthersStay number before after
     × (made ≡ nothing)
-Turned page Names limit greatest (Bytes number piece) made before after =
-    TakesPiece page Names piece made (before number).line (before number) (after number)
+Turned page Finds limit greatest (Bytes number piece) made before after =
+    TakesPiece page Finds piece made (before number).line (before number) (after number)
     × OthersStay number before after
-Turned page Names limit greatest (Ended number) made before after =
+Turned page Finds limit greatest (Ended number) made before after =
     Finishes made (before number).line (before number) (after number)
     × OthersStay number before after
-Turned page Names limit greatest (LostEvent number) made before after =
+Turned page Finds limit greatest (LostEvent number) made before after =
     (after number ≡ record (before number) { line = None }) × OthersStay number before after
     × (made ≡ nothing)
-Turned page Names limit greatest (Change text) made before after =
+Turned page Finds limit greatest (Change text) made before after =
     ((number : ℕ) → after number ≡ before number) × (made ≡ nothing)
-Turned page Names limit greatest Done made before after =
+Turned page Finds limit greatest Done made before after =
     ((number : ℕ) → after number ≡ before number) × (made ≡ nothing)

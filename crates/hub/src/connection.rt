@@ -1,22 +1,23 @@
 // One connection: its bytes come in pieces, and its replies go out one by one.
-ghost use Rattle.std.specs.Prelude.{◌≡◌, ℕ, ◌<◌, ◌⊎◌, List, [], ◌∷◌, ◌++◌, ◌||◌, length, IfOk, true};
-ghost use Rattle.sd_value.specs.declared.Term.{Term};
-ghost use Rattle.page_spec.specs.declared.Outcome.{Outcome};
-ghost use Rattle.page_spec.specs.Address.{TermOf};
+ghost use Rattle.std.specs.Prelude.{◌≡◌, ℕ, ◌<◌, ◌⊎◌, Option, List, [], ◌∷◌, ◌++◌, ◌||◌, length, IfOk, true};
+ghost use Rattle.page_spec.specs.declared.PageName.{PageName as AnyName};
+ghost use Rattle.page_spec.specs.declared.Shown.{Shown as AnyShown};
+ghost use Rattle.page_spec.specs.Page.{Shows, IsNotFound, not_found};
 ghost use Rattle.wire.specs.Accounts.{up_by};
 ghost use Rattle.wire.specs.Noted.{Noted};
 ghost use Rattle.wire.specs.Told.{EventsStay, OtherAccountsStay, OtherFaultsStay};
 ghost use Rattle.http_spec.specs.Replies.{reply_bytes};
 ghost use Rattle.http_spec.specs.Sessions.{IsLookedUp};
-ghost use Rattle.serving_spec.specs.Made.{Made, NamedBy, LooksUp, AllLooked};
+ghost use Rattle.serving_spec.specs.Made.{Made, finds_in, page_list, LooksUp, AllLooked};
+ghost use Rattle.hub.specs.Makes.{LooksFirst};
 ghost use Rattle.serving_spec.specs.Shown.{shown_in};
 ghost use Rattle.hub.specs.Turns.{IsPieceServed, IsFinished, IsUnopened, IsAnswered, IsSent};
 
-use address::term_of;
+use address::{not_found_page, page_ending, page_of, told};
 use edge_io::Failed;
 use http_reply::{Reading, no_memory_reply, reply};
 use http_spec::{ParsedRequest, RequestKind, Standing};
-use page_spec::Outcome;
+use page_spec::{Outcome, Shown};
 use sd_value::NoMemory;
 use serving_spec::Origin;
 use std::alloc::Global;
@@ -76,11 +77,11 @@ impl Connection {
         ensures others_fine { OtherFaultsStay number (W.told wire.old) (W.told wire.new) }
         ensures served { (all : Made)
             × IsPieceServed (shown_in origin.now P.site P.templates (P.state pages.old))
-            (TermOf origin.now.root) self.old piece.now all result self.new
+            (finds_in P.site P.templates (P.state pages.old)) self.old piece.now all result self.new
             ((W.told wire.old).account number) ((W.told wire.new).account number)
             ((W.told wire.old).faults number) ((W.told wire.new).faults number)
             × (made.new ≡ up_by all.replies made.old)
-            × AllLooked (P.looks (P.state pages.old)) (P.cache pages.old) all.terms
+            × AllLooked (P.looks (P.state pages.old)) (P.cache pages.old) all.pages
             (P.cache pages.new) }
         ensures stays { EventsStay (W.told wire.old) (W.told wire.new) }
         ensures noted { Noted (W.trace wire.old) (W.trace wire.new) (W.told wire.old).account
@@ -135,7 +136,7 @@ impl Connection {
             ((W.told wire.new).account number)
             ((W.told wire.old).faults number) ((W.told wire.new).faults number)
             × (made.new ≡ up_by all.replies made.old)
-            × AllLooked (P.looks (P.state pages.old)) (P.cache pages.old) all.terms
+            × AllLooked (P.looks (P.state pages.old)) (P.cache pages.old) all.pages
             (P.cache pages.new) }
         ensures stays { EventsStay (W.told wire.old) (W.told wire.new) }
         ensures noted { Noted (W.trace wire.old) (W.trace wire.new) (W.told wire.old).account
@@ -155,7 +156,7 @@ pub(crate) fn answer<P: Versions, W: Wire>(
     ask: &ParsedRequest,
     target: &[u8],
     last: bool,
-    origin: &Origin,
+    _origin: &Origin,
     pages: &mut P,
     made: &mut u64,
     number: u64,
@@ -167,19 +168,19 @@ pub(crate) fn answer<P: Versions, W: Wire>(
     ensures others { OtherAccountsStay number (W.told wire.old) (W.told wire.new) }
     ensures others_fine { OtherFaultsStay number (W.told wire.old) (W.told wire.new) }
     ensures sent { (all : Made)
-        × IsAnswered (shown_in origin.now P.site P.templates (P.state pages.old))
-        (TermOf origin.now.root) ask.now target.now last all result
+        × IsAnswered (shown_in _origin.now P.site P.templates (P.state pages.old))
+        (finds_in P.site P.templates (P.state pages.old)) ask.now target.now last all result
         ((W.told wire.old).account number) ((W.told wire.new).account number)
         ((W.told wire.old).faults number) ((W.told wire.new).faults number)
         × (made.new ≡ up_by all.replies made.old)
-        × AllLooked (P.looks (P.state pages.old)) (P.cache pages.old) all.terms
+        × AllLooked (P.looks (P.state pages.old)) (P.cache pages.old) all.pages
         (P.cache pages.new) }
     ensures stays { EventsStay (W.told wire.old) (W.told wire.new) }
     ensures noted { Noted (W.trace wire.old) (W.trace wire.new) (W.told wire.old).account
         (W.told wire.new).account }
 {
     let close = closes(ask, last);
-    match reply_to(alloc, ask, target, close, origin, pages) {
+    match reply_to(alloc, ask, target, close, pages) {
         Ok(reply) => {
             *made = made.saturating_add(1);
             send(reply.as_slice(), close, number, wire)
@@ -236,73 +237,112 @@ fn reply_to<P: Versions>(
     ask: &ParsedRequest,
     target: &[u8],
     close: bool,
-    origin: &Origin,
     pages: &mut P,
 ) -> Result<Vec<u8>, NoMemory>
     requires own { P.Own pages.old }
     ensures own { P.Own pages.new }
     ensures state { P.state pages.new ≡ P.state pages.old }
-    ensures bytes { IfOk result (λ bytes. (outcome : Outcome)
-        × IsLookedUp (shown_in origin.now P.site P.templates (P.state pages.old)) ask.now.kind
-        target.now outcome
-        × (bytes.items ≡ reply_bytes ask.now outcome close)) }
-    ensures looked { (terms : List Term)
-        × ((terms ≡ []) ⊎ LooksUp (TermOf origin.now.root) ask.now.kind target.now terms)
-        × IfOk result (λ bytes. LooksUp (TermOf origin.now.root) ask.now.kind target.now terms)
-        × AllLooked (P.looks (P.state pages.old)) (P.cache pages.old) terms (P.cache pages.new) }
+    ensures bytes { IfOk result (λ bytes. (shown : AnyShown)
+        × ((hosts : Option (List ℕ)) → IsLookedUp (record {
+          hosts = hosts;
+          shows = Shows
+              (P.site (P.state pages.old)) (P.templates (P.state pages.old));
+        }) ask.now.kind
+        target.now shown)
+        × (bytes.items ≡ reply_bytes ask.now shown close)) }
+    ensures looked { (names : List AnyName)
+        × LooksFirst (finds_in P.site P.templates (P.state pages.old)) ask.now.kind target.now names
+        × IfOk result (λ bytes. LooksUp (finds_in P.site P.templates (P.state pages.old))
+        ask.now.kind target.now names)
+        × AllLooked (P.looks (P.state pages.old)) (P.cache pages.old) names (P.cache pages.new) }
 {
-    let outcome = look_up(alloc, ask.kind, target, origin, pages)?;
+    let shown = look_up(alloc, ask.kind, target, pages)?;
     let mut out = Vec::new(alloc);
-    reply(alloc, ask, &outcome, close, &mut out)?;
+    reply(alloc, ask, &shown, close, &mut out)?;
     Ok(out)
 }
 
-/// The outcome that the reply shows. Where no page is asked for, it may be any.
+/// What the reply shows. Where no page is asked for, it may be anything.
 fn look_up<P: Versions>(
     alloc: Global,
     kind: RequestKind,
     target: &[u8],
-    origin: &Origin,
     pages: &mut P,
-) -> Result<Outcome, NoMemory>
+) -> Result<Shown, NoMemory>
     requires own { P.Own pages.old }
     ensures own { P.Own pages.new }
     ensures state { P.state pages.new ≡ P.state pages.old }
-    ensures found { IfOk result (λ outcome. IsLookedUp
-        (shown_in origin.now P.site P.templates (P.state pages.old)) kind target.now outcome) }
-    ensures looked { (terms : List Term)
-        × ((terms ≡ []) ⊎ LooksUp (TermOf origin.now.root) kind target.now terms)
-        × IfOk result (λ outcome. LooksUp (TermOf origin.now.root) kind target.now terms)
-        × AllLooked (P.looks (P.state pages.old)) (P.cache pages.old) terms (P.cache pages.new) }
+    ensures found { IfOk result (λ shown. (hosts : Option (List ℕ)) → IsLookedUp
+        (record {
+          hosts = hosts;
+          shows = Shows (P.site (P.state pages.old))
+              (P.templates (P.state pages.old));
+        }) kind target.now shown) }
+    ensures looked { (names : List AnyName)
+        × LooksFirst (finds_in P.site P.templates (P.state pages.old)) kind target.now names
+        × IfOk result (λ shown. LooksUp (finds_in P.site P.templates (P.state pages.old)) kind
+        target.now names)
+        × AllLooked (P.looks (P.state pages.old)) (P.cache pages.old) names (P.cache pages.new) }
 {
     match kind {
-        RequestKind::Get => page_at(alloc, target, origin, pages),
-        RequestKind::Head => page_at(alloc, target, origin, pages),
-        RequestKind::BadRequest => Ok(Outcome::Missing),
-        RequestKind::Misdirected => Ok(Outcome::Missing),
-        RequestKind::WrongMethod => Ok(Outcome::Missing),
+        RequestKind::Get => shown_at(alloc, target, pages),
+        RequestKind::Head => shown_at(alloc, target, pages),
+        RequestKind::BadRequest => Ok(Shown::Missing(None)),
+        RequestKind::Misdirected => Ok(Shown::Missing(None)),
+        RequestKind::WrongMethod => Ok(Shown::Missing(None)),
     }
 }
 
-/// The outcome of the term that a target names.
-fn page_at<P: Versions>(
-    alloc: Global,
-    target: &[u8],
-    origin: &Origin,
-    pages: &mut P,
-) -> Result<Outcome, NoMemory>
+/// What a target shows.
+fn shown_at<P: Versions>(alloc: Global, target: &[u8], pages: &mut P) -> Result<Shown, NoMemory>
     requires own { P.Own pages.old }
     ensures own { P.Own pages.new }
     ensures state { P.state pages.new ≡ P.state pages.old }
-    ensures found { IfOk result
-        ((shown_in origin.now P.site P.templates (P.state pages.old)).outcome target.now) }
-    ensures looked { (terms : List Term)
-        × ((terms ≡ []) ⊎ NamedBy (TermOf origin.now.root) target.now terms)
-        × IfOk result (λ outcome. NamedBy (TermOf origin.now.root) target.now terms)
-        × AllLooked (P.looks (P.state pages.old)) (P.cache pages.old) terms (P.cache pages.new) }
+    ensures found { IfOk result (Shows (P.site (P.state pages.old))
+        (P.templates (P.state pages.old)) target.now) }
+    ensures looked { (names : List AnyName)
+        × ((names ≡ []) ⊎ ((rest : List AnyName)
+        × finds_in P.site P.templates (P.state pages.old) target.now (names ++ rest)))
+        × IfOk result (λ shown.
+        finds_in P.site P.templates (P.state pages.old) target.now names)
+        × AllLooked (P.looks (P.state pages.old)) (P.cache pages.old) names (P.cache pages.new) }
 {
-    match term_of(alloc, target, origin.root.as_ref())? {
-        Some(term) => pages.page(alloc, &term),
-        None => Ok(Outcome::Missing),
+    let Some(name) = page_of(alloc, target, pages.template_file())? else {
+        return missing(alloc, pages);
+    };
+    match pages.page(alloc, &name)? {
+        Outcome::Page(text) => {
+            let ending = page_ending(pages.template_file(), &name);
+            Ok(Shown::Page(text, ending))
+        }
+        Outcome::Missing => missing(alloc, pages),
+        Outcome::Cyclic(value) => {
+            let at = told(alloc, pages.template_file(), &value)?;
+            Ok(Shown::Cyclic(at))
+        }
+        Outcome::TooLong => Ok(Shown::TooLong),
+    }
+}
+
+/// What is shown where there is no page: the text of the page for that, if there is one and it has one.
+fn missing<P: Versions>(alloc: Global, pages: &mut P) -> Result<Shown, NoMemory>
+    requires own { P.Own pages.old }
+    ensures own { P.Own pages.new }
+    ensures state { P.state pages.new ≡ P.state pages.old }
+    ensures found { IfOk result (λ shown. (text : Option (List ℕ))
+        × (shown ≡ Shown.Missing text)
+        × IsNotFound (P.site (P.state pages.old)) (P.templates (P.state pages.old))
+        (not_found (P.templates (P.state pages.old))) text) }
+    ensures looked { (names : List AnyName)
+        × ((names ≡ []) ⊎ (names ≡ page_list (not_found (P.templates (P.state pages.old)))))
+        × IfOk result (λ shown. names ≡ page_list (not_found (P.templates (P.state pages.old))))
+        × AllLooked (P.looks (P.state pages.old)) (P.cache pages.old) names (P.cache pages.new) }
+{
+    let Some(name) = not_found_page(alloc, pages.template_file())? else {
+        return Ok(Shown::Missing(None));
+    };
+    match pages.page(alloc, &name)? {
+        Outcome::Page(text) => Ok(Shown::Missing(Some(text))),
+        Outcome::Missing | Outcome::Cyclic(_) | Outcome::TooLong => Ok(Shown::Missing(None)),
     }
 }

@@ -2,13 +2,12 @@
 ghost use Rattle.std.specs.Prelude.{◌≡◌, ◌≢◌, ◌<◌, ◌⊎◌, ℕ, List, length, true, false, Some, None, if◌then◌else◌};
 ghost use Rattle.std.specs.Ordering.{nat_cmp};
 ghost use Rattle.std.specs.BTreeMap.{get};
-ghost use Rattle.page_spec.specs.Address.{TermOf};
 ghost use Rattle.wire.specs.Accounts.{up, up_by};
 ghost use Rattle.wire.specs.Noted.{Noted};
 ghost use Rattle.wire.specs.Told.{EventsStay};
 ghost use Rattle.happenings.specs.declared.event.WireEvent.{WireEvent};
 ghost use Rattle.hub.specs.HubState.{HubState, line_of};
-ghost use Rattle.serving_spec.specs.Made.{Made, nothing};
+ghost use Rattle.serving_spec.specs.Made.{Made, finds_in, nothing};
 ghost use Rattle.serving_spec.specs.Shown.{shown_in};
 ghost use Rattle.serving_spec.specs.Changes.{state_after, text_of, refused_of, Keeps};
 ghost use Rattle.hub.specs.Turns.{ats, Turned};
@@ -116,7 +115,7 @@ impl<P: Versions> Hub<P> {
         ensures passes { self.old.spent ≡ true → (self.new ≡ self.old) × (wire.new ≡ wire.old) }
         ensures turned { self.old.spent ≡ false → (made : Made)
             × Turned (shown_in self.old.origin P.site P.templates (P.state self.old.pages))
-            (TermOf self.old.origin.root) self.old.limit self.old.greatest event.now made
+            (finds_in P.site P.templates (P.state self.old.pages)) self.old.limit self.old.greatest event.now made
             (ats (line_of self.old) (W.told wire.old).account (W.told wire.old).faults)
             (ats (line_of self.new) (W.told wire.new).account (W.told wire.new).faults)
             × (self.new.replies ≡ up_by made.replies self.old.replies)
@@ -196,7 +195,7 @@ impl<P: Versions> Desk<P> {
         ensures greatest { self.new.greatest ≡ greatest_after event.now self.old.greatest }
         ensures turned { (made : Made)
             × Turned (shown_in self.old.origin P.site P.templates (P.state self.old.pages))
-            (TermOf self.old.origin.root) self.old.requests self.old.greatest event.now made
+            (finds_in P.site P.templates (P.state self.old.pages)) self.old.requests self.old.greatest event.now made
             (ats (get nat_cmp self.old.connections) (W.told wire.old).account
             (W.told wire.old).faults)
             (ats (get nat_cmp self.new.connections) (W.told wire.new).account
@@ -297,7 +296,7 @@ impl<P: Versions> Desk<P> {
         ensures opened { self.new.opened
             ≡ opened_after (WireEvent.Opened number) self.old.greatest self.old.opened }
         ensures turned { Turned (shown_in self.old.origin P.site P.templates
-            (P.state self.old.pages)) (TermOf self.old.origin.root) self.old.requests
+            (P.state self.old.pages)) (finds_in P.site P.templates (P.state self.old.pages)) self.old.requests
             self.old.greatest (WireEvent.Opened number) nothing
             (ats (get nat_cmp self.old.connections) (W.told wire.old).account
             (W.told wire.old).faults)

@@ -2,7 +2,6 @@
 ghost use Rattle.std.specs.Prelude.{◌≡◌, ◌<◌, ◌⊎◌, ℕ, List, None, false};
 ghost use Rattle.std.specs.List.{fold};
 ghost use Rattle.edge_io.specs.Counts.{Rose};
-ghost use Rattle.page_spec.specs.Address.{TermOf};
 ghost use Rattle.wire.specs.Events.{add_event, is_done, IsDrawn};
 ghost use Rattle.happenings.specs.Happening.{Happening};
 ghost use Rattle.happenings.specs.declared.event.WireEvent.{WireEvent};
@@ -12,6 +11,7 @@ ghost use Rattle.serving_spec.specs.Changes.{state_after};
 ghost use Rattle.serving_spec.specs.Inputs.{moment_after, Unopened};
 ghost use Rattle.hub.specs.Moments.{Stands};
 ghost use Rattle.serving_spec.specs.RunEnds.{EndsRun};
+ghost use Rattle.serving_spec.specs.Made.{finds_in};
 ghost use Rattle.serving_spec.specs.Shown.{shown_in};
 ghost use Rattle.hub.specs.Turns.{at_in};
 
@@ -43,7 +43,7 @@ pub fn serve<P: Versions, W: Wire>(
         (scene P.state P.cache hub.old (W.told wire.old).account (W.told wire.old).faults) events
         (scene P.state P.cache hub.new (W.told wire.new).account (W.told wire.new).faults) course
         × ((number : ℕ) → line_of hub.old number ≡ None
-        → Stands (shown_in hub.old.origin P.site P.templates) (TermOf hub.old.origin.root)
+        → Stands (shown_in hub.old.origin P.site P.templates) (finds_in P.site P.templates)
         hub.old.limit number
         (moment_after (state_after P.changed) number (record {
           current = P.state hub.old.pages;

@@ -2,11 +2,10 @@
 ghost use Rattle.std.specs.Prelude.{◌≡◌, ◌≢◌, ℕ, ◌<◌, Some, None, List};
 ghost use Rattle.std.specs.Ordering.{nat_cmp};
 ghost use Rattle.std.specs.BTreeMap.{get};
-ghost use Rattle.page_spec.specs.Address.{TermOf};
 ghost use Rattle.wire.specs.Accounts.{up_by};
 ghost use Rattle.wire.specs.Noted.{Noted};
 ghost use Rattle.wire.specs.Told.{EventsStay, OtherAccountsStay};
-ghost use Rattle.serving_spec.specs.Made.{Made, AllLooked};
+ghost use Rattle.serving_spec.specs.Made.{Made, finds_in, AllLooked};
 ghost use Rattle.serving_spec.specs.Shown.{shown_in};
 ghost use Rattle.hub.specs.Turns.{At, ats, at_in, account_after, Opens, TakesPiece, Finishes, OthersStay};
 
@@ -73,13 +72,13 @@ pub(crate) fn take_piece<P: Versions, W: Wire>(
         (ats (get nat_cmp connections.new) (W.told wire.new).account (W.told wire.new).faults) }
     ensures taken { (all : Made)
         × TakesPiece (shown_in origin.now P.site P.templates (P.state pages.old))
-        (TermOf origin.now.root) piece.now all (get nat_cmp connections.old number)
+        (finds_in P.site P.templates (P.state pages.old)) piece.now all (get nat_cmp connections.old number)
         (at_in (get nat_cmp connections.old) (W.told wire.old).account (W.told wire.old).faults
         number)
         (at_in (get nat_cmp connections.new) (W.told wire.new).account (W.told wire.new).faults
         number)
         × (made.new ≡ up_by all.replies made.old)
-        × AllLooked (P.looks (P.state pages.old)) (P.cache pages.old) all.terms
+        × AllLooked (P.looks (P.state pages.old)) (P.cache pages.old) all.pages
         (P.cache pages.new) }
     ensures stays { EventsStay (W.told wire.old) (W.told wire.new) }
     ensures noted { Noted (W.trace wire.old) (W.trace wire.new) (W.told wire.old).account
@@ -122,7 +121,7 @@ pub(crate) fn finish<P: Versions, W: Wire>(
         (at_in (get nat_cmp connections.new) (W.told wire.new).account (W.told wire.new).faults
         number)
         × (made.new ≡ up_by all.replies made.old)
-        × AllLooked (P.looks (P.state pages.old)) (P.cache pages.old) all.terms
+        × AllLooked (P.looks (P.state pages.old)) (P.cache pages.old) all.pages
         (P.cache pages.new) }
     ensures stays { EventsStay (W.told wire.old) (W.told wire.new) }
     ensures noted { Noted (W.trace wire.old) (W.trace wire.new) (W.told wire.old).account

@@ -20,6 +20,7 @@ number_of (asked.Linked f) = 145
 number_of (asked.Created f) = 146
 number_of (asked.Variable block x) = 147
 number_of (asked.Rows block) = 148
+number_of (asked.Value block after) = 155
 number_of asked.Tag = 149
 number_of (asked.Member c) = 156
 number_of asked.Shown = 157

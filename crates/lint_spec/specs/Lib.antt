@@ -1,3 +1,4 @@
+pub mod Values
 pub mod QueryClaims
 pub mod Markup
 pub mod TemplateClaims

@@ -10,13 +10,14 @@ use Rattle.sd_value.specs.Names.{Name, Label}
 use Rattle.graph_spec.specs.declared.Edge.{Edge}
 use Rattle.graph_spec.specs.DataGraph.{DataGraph, HasMember, IsLabelOf}
 use Rattle.query_spec.specs.Query.{Condition, negation, Target, Body}
-use Rattle.query_spec.specs.Mentions.{names, arc_names}
+use Rattle.query_spec.specs.Mentions.{names, arcs_in}
 use Rattle.query_spec.specs.Rows.{IsRow}
 use Rattle.tmpl.specs.Body.{TemplateFile}
 use Rattle.site_spec.specs.Site.{Scope, chain, target_terms, SomeOf}
 use Rattle.site_spec.specs.Root.{has_no_args}
 use Rattle.constraint_spec.specs.Placed.{PlacedLink}
 use Rattle.constraint_spec.specs.Certificate.{MayCarry}
+use Rattle.lint_spec.specs.Values.{IsWithoutValue}
 use Rattle.lint_spec.specs.declared.Asked.{Asked}
 use Rattle.lint_spec.specs.declared.Asked.TheVariants as asked
 
@@ -89,7 +90,7 @@ module _ (graph : DataGraph) (q : Scope) (templates : TemplateFile) (further : L
   IsMistake (asked.Labels labels) = SomeOf (λ l. IsLabelOf graph l → ⊥) labels
   -- the variable stands for a label, and no edge has one of those with which it is compared
   IsMistake (asked.Compared number x labels) =
-      OfBlock q number (λ b. Contains (flat_map arc_names b.conditions) x)
+      OfBlock q number (λ b. Contains (arcs_in b.conditions b.nones) x)
       × SomeOf (λ l. IsLabelOf graph l → ⊥) labels
   -- no condition of the chain mentions the variable outside of `not`
   IsMistake (asked.Variable number x) =
@@ -97,6 +98,9 @@ module _ (graph : DataGraph) (q : Scope) (templates : TemplateFile) (further : L
   -- the chain has no row
   IsMistake (asked.Rows number) =
       OfBlock q number (λ b. (row : List Value) → IsRow graph (chain q b) row → ⊥)
+  -- the call has no value in some row of the rest of the chain
+  IsMistake (asked.Value number after) =
+      OfBlock q number (λ b. IsWithoutValue graph q.version b.conditions b.nones after)
   -- no LINK leads to the function's pages, no COLLECT has them, and it is not the root's
   IsMistake (asked.Created f) =
       (Contains (linked q.bodies ++ put q.bodies) f → ⊥)

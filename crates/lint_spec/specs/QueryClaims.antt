@@ -119,11 +119,23 @@ blocks_within no_blocks = []
 blocks_within (block clauses inner place after) =
     record { clauses = clauses; span = place } ∷ (blocks_within inner ++ blocks_within after)
 
+-- a value of each call among the conditions of a block, which are the last of its chain
+abbrev pub value_claims : ℕ → List Condition → List Claim
+value_claims block [] = []
+value_claims block (gives computes t sign f f_span args span ∷ cs) =
+    claim (asked.Value block (length cs)) f_span.start ∷ value_claims block cs
+value_claims block (c ∷ cs) = value_claims block cs
+
+-- the labels and collections within a NONE
+abbrev pub none_claims : ℕ → NoneOf → List Claim
+none_claims block n = flat_map (condition_claims block false) n.conditions
+
 -- a block of this number: its rows, and what its clauses ask for
 abbrev pub block_claims : ℕ → PlacedBlock → List Claim
 block_claims number b =
     claim (asked.Rows number) b.span.start
     ∷ (flat_map (condition_claims number false) b.clauses.conditions
+    ++ value_claims number b.clauses.conditions ++ flat_map (none_claims number) b.clauses.nones
     ++ map create_claim b.clauses.creates ++ flat_map (λ k. target_claims k.target) b.clauses.links
     ++ flat_map (λ k. target_claims k.target) b.clauses.collects)
 

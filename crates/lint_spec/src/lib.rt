@@ -66,6 +66,11 @@ pub enum Asked {
     },
     /// Rows of a block's chain.
     Rows(u64),
+    /// A value of a call in each row of the rest of its block's chain, where so many conditions come after the call.
+    Value {
+        block: u64,
+        after: u64,
+    },
     /// A way to the pages of a function that a CREATE names.
     Created(Str),
     /// A template for the pages of a function to which a link leads, or which a COLLECT has.
@@ -106,6 +111,10 @@ impl Drop for Asked {
                 variable: _,
             } => {}
             Asked::Rows(_) => {}
+            Asked::Value {
+                block: _,
+                after: _,
+            } => {}
             Asked::Created(_) => {}
             Asked::Linked(_) => {}
             Asked::Presented(_) => {}

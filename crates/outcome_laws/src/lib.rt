@@ -1,16 +1,16 @@
-//! Each term of a query's site has an outcome, each target of a request, and each connection an answer.
+//! Each page of a query's site has an outcome, each target of a request, and each connection an answer.
 #![tactic(auto)]
 
-ghost use Rattle.std.specs.Prelude.{◌≡◌, ◌⊎◌, ℕ, Bool, List, Option};
-ghost use Rattle.sd_value.specs.Names.{Name};
-ghost use Rattle.sd_value.specs.declared.Term.{Term};
+ghost use Rattle.std.specs.Prelude.{◌≡◌, ◌⊎◌, ℕ, Bool, List};
+ghost use Rattle.page_spec.specs.declared.PageName.{PageName};
+ghost use Rattle.page_spec.specs.declared.Shown.{Shown};
 ghost use Rattle.sd_value.specs.declared.Value.{Value};
 ghost use Rattle.graph_spec.specs.DataGraph.{DataGraph};
 ghost use Rattle.site_spec.specs.Site.{Scope};
 ghost use Rattle.tmpl.specs.Body.{TemplateFile};
 ghost use Rattle.page_spec.specs.declared.Outcome.{Outcome};
 ghost use Rattle.page_spec.specs.Pieces.{HasTemplate};
-ghost use Rattle.page_spec.specs.Page.{HasText, Loops, IsOutcome, PageAt};
+ghost use Rattle.page_spec.specs.Page.{HasText, Loops, IsOutcome, PageAt, Shows};
 ghost use Rattle.weight_spec.specs.Site.{site_of};
 ghost use Rattle.http_spec.specs.Streams.{Timed};
 ghost use Rattle.http_spec.specs.Sessions.{AnswersStream};
@@ -39,18 +39,20 @@ pub fn each_value_ends_or_loops()
         ⊎ Loops (site_of graph query) file v }
 {}
 
-/// Each term has an outcome: its page, that there is none, the value that its cycle is named by, or
+/// Each page has an outcome: its text, that there is none, the value that its cycle is named by, or
 /// that its text is too long.
-pub fn each_term_has_an_outcome()
-    ensures { (graph : DataGraph) (query : Scope) (file : TemplateFile) (t : Term)
-        → (o : Outcome) × IsOutcome (site_of graph query) file t o }
+pub fn each_page_has_an_outcome()
+    ensures { (graph : DataGraph) (query : Scope) (file : TemplateFile) (p : PageName)
+        → (o : Outcome) × IsOutcome (site_of graph query) file p o }
 {}
 
-/// Each target has an outcome: that of the term that it names, or that there is no page where it
-/// names none.
+/// Each target has an outcome: that of the page that it names, or that there is no page where it
+/// names none; and it shows something.
 pub fn each_target_has_an_outcome()
-    ensures { (root : Option Name) (graph : DataGraph) (query : Scope) (file : TemplateFile)
-        (target : List ℕ) → (o : Outcome) × PageAt root (site_of graph query) file target o }
+    ensures outcome { (graph : DataGraph) (query : Scope) (file : TemplateFile) (target : List ℕ)
+        → (o : Outcome) × PageAt (site_of graph query) file target o }
+    ensures shown { (graph : DataGraph) (query : Scope) (file : TemplateFile) (target : List ℕ)
+        → (s : Shown) × Shows (site_of graph query) file target s }
 {}
 
 /// Each connection has an answer for which memory suffices, whatever its bytes are, whatever changes
@@ -65,7 +67,6 @@ pub fn each_connection_has_an_answer<C: Changing>()
 
 /// Asking for the targets of a trial of any number of entries gives a text.
 pub fn each_trial_has_a_text()
-    ensures { (root : Option Name) (graph : DataGraph) (query : Scope) (file : TemplateFile)
-        (entries : ℕ) → (text : List ℕ)
-        × IsTrialText root (site_of graph query) file entries text }
+    ensures { (graph : DataGraph) (query : Scope) (file : TemplateFile) (entries : ℕ)
+        → (text : List ℕ) × IsTrialText (site_of graph query) file entries text }
 {}

@@ -5,23 +5,23 @@ use Rattle.std.specs.Map.{lookup, lookup_entry, remove_entry}
 use Rattle.std.proofs.lemmas.Bool.Decides.{nat_tests}
 use Rattle.std.proofs.lemmas.List.Sums.{sum_by-cons, sum_by-append}
 use Rattle.lru.specs.LruCache.{LruCache, lru_cache, promoted, demoted, last_entry}
-use Rattle.sd_value.specs.declared.Term.{Term}
+use Rattle.page_spec.specs.declared.PageName.{PageName}
 use Rattle.page_cache.specs.Entries.{bytes_in, entries_within}
 
 -- how many bytes the text of an entry has
-abbrev pub size : Term × List ℕ → ℕ
+abbrev pub size : PageName × List ℕ → ℕ
 size e = length e.1
 
 -- of an entry, if there is one
-abbrev pub size_of : Option (Term × List ℕ) → ℕ
+abbrev pub size_of : Option (PageName × List ℕ) → ℕ
 size_of entry = option_map_or (λ e. length e.1) entry 0
 
-pub bytes_cons : (e : Term × List ℕ) (es : List (Term × List ℕ)) → bytes_in (e ∷ es) ≡ length e.1 + bytes_in es
+pub bytes_cons : (e : PageName × List ℕ) (es : List (PageName × List ℕ)) → bytes_in (e ∷ es) ≡ length e.1 + bytes_in es
 bytes_cons e es = sum_by-cons size e es
 
-module _ (test : Term → Bool) where
-  -- the entry of a term, and the others
-  removed : (es : List (Term × List ℕ)) (entry : Term × List ℕ) → lookup_entry test es ≡ Some entry
+module _ (test : PageName → Bool) where
+  -- the entry of a page, and the others
+  removed : (es : List (PageName × List ℕ)) (entry : PageName × List ℕ) → lookup_entry test es ≡ Some entry
       → length entry.1 + bytes_in (remove_entry test es) ≡ bytes_in es
   removed [] entry is = cc
   removed (e ∷ es) entry is = by_test (test e.0) is (removed es entry)
@@ -38,17 +38,17 @@ module _ (test : Term → Bool) where
           let all = bytes_cons e es in
           omega (arith, others, one, all)
 
-  pub bytes_promoted : (es : List (Term × List ℕ)) → bytes_in (promoted test es) ≡ bytes_in es
+  pub bytes_promoted : (es : List (PageName × List ℕ)) → bytes_in (promoted test es) ≡ bytes_in es
   bytes_promoted es = by (lookup_entry test es) refl
     where
-      by : (o : Option (Term × List ℕ)) → lookup_entry test es ≡ o → bytes_in (option_map_or (λ e. e ∷ remove_entry test es) o es) ≡ bytes_in es
+      by : (o : Option (PageName × List ℕ)) → lookup_entry test es ≡ o → bytes_in (option_map_or (λ e. e ∷ remove_entry test es) o es) ≡ bytes_in es
       by None is = refl
       by (Some e) is = bytes_cons e (remove_entry test es) ∙ removed es e is
 
-  bytes_demoted : (es : List (Term × List ℕ)) → bytes_in (demoted test es) ≡ bytes_in es
+  bytes_demoted : (es : List (PageName × List ℕ)) → bytes_in (demoted test es) ≡ bytes_in es
   bytes_demoted es = by (lookup_entry test es) refl
     where
-      by : (o : Option (Term × List ℕ)) → lookup_entry test es ≡ o → bytes_in (option_map_or (λ e. remove_entry test es ++ e ∷ []) o es) ≡ bytes_in es
+      by : (o : Option (PageName × List ℕ)) → lookup_entry test es ≡ o → bytes_in (option_map_or (λ e. remove_entry test es ++ e ∷ []) o es) ≡ bytes_in es
       by None is = refl
       by (Some e) is =
           let joined = sum_by-append size (remove_entry test es) (e ∷ []) in
@@ -57,25 +57,25 @@ module _ (test : Term → Bool) where
           omega (arith, joined, one, all)
 
   -- the newest entry was turned around, or went
-  pub turned_stays : (es : List (Term × List ℕ)) (after : LruCache Term (List ℕ)) (cap : ℕ) → after ≡ lru_cache (demoted test es) cap → 0 + bytes_in after.entries ≡ bytes_in es
+  pub turned_stays : (es : List (PageName × List ℕ)) (after : LruCache PageName (List ℕ)) (cap : ℕ) → after ≡ lru_cache (demoted test es) cap → 0 + bytes_in after.entries ≡ bytes_in es
   turned_stays es after cap is =
-      let same : bytes_in after.entries ≡ bytes_in es = ap (λ (c : LruCache Term (List ℕ)). bytes_in c.entries) is ∙ bytes_demoted es in
+      let same : bytes_in after.entries ≡ bytes_in es = ap (λ (c : LruCache PageName (List ℕ)). bytes_in c.entries) is ∙ bytes_demoted es in
       omega (arith, same)
 
-first_bytes : (es : List (Term × List ℕ)) → size_of (slice_get es 0) + bytes_in (drop 1 es) ≡ bytes_in es
+first_bytes : (es : List (PageName × List ℕ)) → size_of (slice_get es 0) + bytes_in (drop 1 es) ≡ bytes_in es
 first_bytes [] = refl
 first_bytes (e ∷ es) = sym (bytes_cons e es)
 
-pub turned_goes : (es : List (Term × List ℕ)) (after : LruCache Term (List ℕ)) (cap gone : ℕ) (popped : Option (Term × List ℕ)) → popped ≡ slice_get es 0
+pub turned_goes : (es : List (PageName × List ℕ)) (after : LruCache PageName (List ℕ)) (cap gone : ℕ) (popped : Option (PageName × List ℕ)) → popped ≡ slice_get es 0
     → gone ≡ size_of popped → after ≡ lru_cache (drop 1 es) cap → gone + bytes_in after.entries ≡ bytes_in es
 turned_goes es after cap gone popped first size_is is =
     let size_same : gone ≡ size_of (slice_get es 0) = size_is ∙ ap size_of first in
-    let rest : bytes_in after.entries ≡ bytes_in (drop 1 es) = ap (λ (c : LruCache Term (List ℕ)). bytes_in c.entries) is in
+    let rest : bytes_in after.entries ≡ bytes_in (drop 1 es) = ap (λ (c : LruCache PageName (List ℕ)). bytes_in c.entries) is in
     let all = first_bytes es in
     omega (arith, size_same, rest, all)
 
 -- the entry at a place after which there is at most itself
-pub last_bytes : (n : ℕ) (es : List (Term × List ℕ)) → length es ≤ suc n → size_of (slice_get es n) + bytes_in (take n es) ≡ bytes_in es
+pub last_bytes : (n : ℕ) (es : List (PageName × List ℕ)) → length es ≤ suc n → size_of (slice_get es n) + bytes_in (take n es) ≡ bytes_in es
 last_bytes zero [] few = refl
 last_bytes (suc n) [] few = refl
 last_bytes zero (e ∷ []) few = let one = bytes_cons e [] in omega (arith, one)
@@ -87,7 +87,7 @@ last_bytes (suc n) (e ∷ es) few =
     omega (arith, rest, front, all)
 
 -- there is room for all
-pub within_all : (most : ℕ) (es : List (Term × List ℕ)) → bytes_in es ≤ most → entries_within most es ≡ es
+pub within_all : (most : ℕ) (es : List (PageName × List ℕ)) → bytes_in es ≤ most → entries_within most es ≡ es
 within_all most [] fits = refl
 within_all most (e ∷ es) fits =
     let all = bytes_cons e es in
@@ -96,7 +96,7 @@ within_all most (e ∷ es) fits =
     ∙ ap (λ xs. e ∷ xs) (within_all (most - length e.1) es (omega (arith, all, fits)))
 
 -- there is none for the last one
-within_front : (most : ℕ) (e : Term × List ℕ) (es : List (Term × List ℕ)) → most < bytes_in (e ∷ es) → entries_within most (take (length es) (e ∷ es)) ≡ entries_within most (e ∷ es)
+within_front : (most : ℕ) (e : PageName × List ℕ) (es : List (PageName × List ℕ)) → most < bytes_in (e ∷ es) → entries_within most (take (length es) (e ∷ es)) ≡ entries_within most (e ∷ es)
 within_front most e [] more =
     let one = bytes_cons e [] in
     let test : nat_le (length e.1) most ≡ false = grind (arith, nat_tests) in
@@ -114,7 +114,7 @@ within_front most e (f ∷ es) more = by_test (nat_le (length e.1) most) refl (�
     by_test false is rest = refl
 
 -- Of entries after the first, which have too many bytes, the last went.
-pub record Dropped (es : List (Term × List ℕ)) (count_max bytes most gone : ℕ) (after : LruCache Term (List ℕ)) : Type 0 where
+pub record Dropped (es : List (PageName × List ℕ)) (count_max bytes most gone : ℕ) (after : LruCache PageName (List ℕ)) : Type 0 where
   pub less : gone ≤ bytes
   pub some : 0 < length after.entries
   pub count : bytes - gone ≡ bytes_in (drop 1 after.entries)
@@ -123,12 +123,12 @@ pub record Dropped (es : List (Term × List ℕ)) (count_max bytes most gone : �
   pub room : after.cap ≡ count_max
   pub shorter : length after.entries < length es
 
-taken : (n : ℕ) (xs : List (Term × List ℕ)) → length (take n xs) ≤ n
+taken : (n : ℕ) (xs : List (PageName × List ℕ)) → length (take n xs) ≤ n
 taken zero xs = omega arith
 taken (suc n) [] = omega arith
 taken (suc n) (x ∷ xs) = let less = taken n xs in omega (arith, less)
 
-pub drops : (es : List (Term × List ℕ)) (count_max bytes most gone : ℕ) (popped : Option (Term × List ℕ)) (after : LruCache Term (List ℕ)) → bytes ≡ bytes_in (drop 1 es)
+pub drops : (es : List (PageName × List ℕ)) (count_max bytes most gone : ℕ) (popped : Option (PageName × List ℕ)) (after : LruCache PageName (List ℕ)) → bytes ≡ bytes_in (drop 1 es)
     → most < bytes → popped ≡ last_entry es → gone ≡ size_of popped → after ≡ lru_cache (take (length es - 1) es) count_max → Dropped es count_max bytes most gone after
 drops [] count_max bytes most gone popped after count more last size_is is = absurd (let none : bytes ≡ 0 = count in omega (arith, none, more))
 drops (e ∷ []) count_max bytes most gone popped after count more last size_is is = absurd (let none : bytes ≡ 0 = count in omega (arith, none, more))
@@ -146,20 +146,20 @@ drops (e ∷ f ∷ es) count_max bytes most gone popped after count more last si
       room = refl;
       shorter = omega (arith, taken (length es) rest);
     } in
-    subst (λ (c : LruCache Term (List ℕ)). Dropped (e ∷ rest) count_max bytes most gone c) (sym (is ∙ ap (λ n. lru_cache (take n (e ∷ rest)) count_max) place)) here
+    subst (λ (c : LruCache PageName (List ℕ)). Dropped (e ∷ rest) count_max bytes most gone c) (sym (is ∙ ap (λ n. lru_cache (take n (e ∷ rest)) count_max) place)) here
 
 -- the first and the others
-pub whole : (es : List (Term × List ℕ)) → take 1 es ++ drop 1 es ≡ es
+pub whole : (es : List (PageName × List ℕ)) → take 1 es ++ drop 1 es ≡ es
 whole [] = refl
 whole (e ∷ es) = refl
 
 -- all were dropped that had to be
-pub fits : (old after : LruCache Term (List ℕ)) (bytes most : ℕ) → bytes ≡ bytes_in (drop 1 after.entries) → bytes ≤ most → take 1 after.entries ≡ take 1 old.entries
+pub fits : (old after : LruCache PageName (List ℕ)) (bytes most : ℕ) → bytes ≡ bytes_in (drop 1 after.entries) → bytes ≤ most → take 1 after.entries ≡ take 1 old.entries
     → entries_within most (drop 1 after.entries) ≡ entries_within most (drop 1 old.entries) → after.cap ≡ old.cap
     → after ≡ lru_cache (take 1 old.entries ++ entries_within most (drop 1 old.entries)) old.cap
 fits old after bytes most count within first others room =
     let all : drop 1 after.entries ≡ entries_within most (drop 1 old.entries) =
     sym (within_all most (drop 1 after.entries) (subst (λ n. n ≤ most) count within)) ∙ others in
-    ap (λ (es : List (Term × List ℕ)). lru_cache es after.cap) (sym (whole after.entries)) ∙ ap (λ n. lru_cache (take 1 after.entries ++ drop 1 after.entries) n) room
-    ∙ ap (λ (xs : List (Term × List ℕ)). lru_cache (xs ++ drop 1 after.entries) old.cap) first
-    ∙ ap (λ (xs : List (Term × List ℕ)). lru_cache (take 1 old.entries ++ xs) old.cap) all
+    ap (λ (es : List (PageName × List ℕ)). lru_cache es after.cap) (sym (whole after.entries)) ∙ ap (λ n. lru_cache (take 1 after.entries ++ drop 1 after.entries) n) room
+    ∙ ap (λ (xs : List (PageName × List ℕ)). lru_cache (xs ++ drop 1 after.entries) old.cap) first
+    ∙ ap (λ (xs : List (PageName × List ℕ)). lru_cache (take 1 old.entries ++ xs) old.cap) all

@@ -8,25 +8,26 @@ ghost use Rattle.std.specs.Map.{keys_of, lookup};
 ghost use Rattle.std.specs.NonZero.{non_zero_usize_get};
 ghost use Rattle.lru.specs.LruCache.{lru_cache, demoted};
 ghost use Rattle.page_spec.specs.Page.{IsOutcome};
-ghost use Rattle.sd_value.specs.declared.Term.{Term};
+ghost use Rattle.page_spec.specs.declared.PageName.{PageName};
 ghost use Rattle.page_spec.specs.declared.Outcome.{Outcome};
 ghost use Rattle.versions.specs.Changes.{TellsEach};
 ghost use Rattle.page_cache.specs.Entries.{pages_of, bytes_in, entries_within, entries_with, entries_where, AreSound};
 ghost use Rattle.serving_spec.specs.Looks.{is_same, Looks, hits_after, kept_after, LooksIn, Kept};
 
 use lru::LruCache;
-use page_spec::Outcome;
-use sd_value::{NoMemory, Str, Term};
+use page_spec::{Outcome, PageName};
+use sd_value::{NoMemory, Str};
 pub use serving_spec::Hit;
 use std::alloc::Global;
 use std::num::NonZeroUsize;
+use tmpl::Templates;
 use versions::{Changed, Versions};
 
 /// Pages, of which those that were looked up last are kept.
 #[derive(Drop)]
 pub struct Cached<P> {
     pub pages: P,
-    pub kept: LruCache<Term, Str>,
+    pub kept: LruCache<PageName, Str>,
     /// How many bytes the kept pages have together, and how many they may have.
     pub bytes: u64,
     pub most: u64,
@@ -61,8 +62,8 @@ impl<P: Versions + Drop> Cached<P> {
         })
     }
 
-    /// The outcome of a term. Where its page is kept, the pages are not asked.
-    pub fn look(&mut self, alloc: Global, term: &Term) -> Result<(Outcome, Hit), NoMemory>
+    /// The outcome of a page. Where it is kept, the pages are not asked.
+    pub fn look(&mut self, alloc: Global, page: &PageName) -> Result<(Outcome, Hit), NoMemory>
         requires own { P.Own self.old.pages }
         requires sound { AreSound (IsOutcome (P.site (P.state self.old.pages))
             (P.templates (P.state self.old.pages))) self.old.kept.entries self.old.bytes
@@ -72,10 +73,10 @@ impl<P: Versions + Drop> Cached<P> {
             (P.templates (P.state self.new.pages))) self.new.kept.entries self.new.bytes
             self.new.most }
         ensures outcome { IfOk result (λ found. IsOutcome (P.site (P.state self.old.pages))
-            (P.templates (P.state self.old.pages)) term.now found.0) }
+            (P.templates (P.state self.old.pages)) page.now found.0) }
         ensures looks { IfOk result (λ found. Looks
             (record { pages = self.old.kept.cap; bytes = self.old.most })
-            (pages_of self.old.kept.entries) term.now found.0 found.1
+            (pages_of self.old.kept.entries) page.now found.0 found.1
             (pages_of self.new.kept.entries)) }
         ensures hits { IfOk result (λ found. self.new.hits ≡ hits_after found.1 self.old.hits) }
         ensures err { OnErr result ((self.new.kept ≡ self.old.kept)
@@ -85,20 +86,25 @@ impl<P: Versions + Drop> Cached<P> {
         ensures hit { IfOk result (λ found. found.1 ≡ Hit.Found → self.new.pages ≡ self.old.pages) }
         ensures state { P.state self.new.pages ≡ P.state self.old.pages }
     {
-        if let Some(text) = copy_kept(&self.kept, alloc, term)? {
-            self.kept.promote(term);
+        if let Some(text) = copy_kept(&self.kept, alloc, page)? {
+            self.kept.promote(page);
             self.hits = self.hits.saturating_add(1);
             return Ok((Outcome::Page(text), Hit::Found));
         }
-        let outcome = self.pages.page(alloc, term)?;
-        let bytes = keep(&mut self.kept, alloc, term, &outcome, self.bytes, self.most)?;
+        let outcome = self.pages.page(alloc, page)?;
+        let bytes = keep(&mut self.kept, alloc, page, &outcome, self.bytes, self.most)?;
         self.bytes = bytes;
         Ok((outcome, Hit::Miss))
     }
 
-    /// Takes a text, as the pages do. Where it is accepted, the terms whose pages surely stay are kept on, in their
-    /// order, and no other. After out of memory perhaps none is kept.
-    pub fn renew(&mut self, alloc: Global, text: &Str, kept: &[Term]) -> Result<Changed, NoMemory>
+    /// Takes a text, as the pages do. Where it is accepted, those that surely stay are kept on, in their order, and no
+    /// other. After out of memory perhaps none is kept.
+    pub fn renew(
+        &mut self,
+        alloc: Global,
+        text: &Str,
+        kept: &[PageName],
+    ) -> Result<Changed, NoMemory>
         requires own { P.Own self.old.pages }
         requires sound { AreSound (IsOutcome (P.site (P.state self.old.pages))
             (P.templates (P.state self.old.pages))) self.old.kept.entries self.old.bytes
@@ -118,7 +124,7 @@ impl<P: Versions + Drop> Cached<P> {
             (P.stays (P.state self.old.pages) text.now) (pages_of self.old.kept.entries)) }
         ensures flags { IfOk result (TellsEach (P.stays (P.state self.old.pages) text.now)
             kept.now) }
-        ensures same { IfOk result (λ c. (t : Term) (o : Outcome) → Contains kept.now t
+        ensures same { IfOk result (λ c. (t : PageName) (o : Outcome) → Contains kept.now t
             → P.stays (P.state self.old.pages) text.now t ≡ true
             → IsOutcome (P.site (P.state self.old.pages)) (P.templates (P.state self.old.pages)) t o
             → IsOutcome (P.site (P.state self.new.pages))
@@ -127,13 +133,13 @@ impl<P: Versions + Drop> Cached<P> {
         ensures most { self.new.most ≡ self.old.most }
         ensures hits { self.new.hits ≡ self.old.hits }
     {
-        let terms = all_terms(alloc, kept, &self.kept)?;
-        match self.pages.change(alloc, text, &terms) {
+        let pages = all_terms(alloc, kept, &self.kept)?;
+        match self.pages.change(alloc, text, &pages) {
             Ok(Changed::Taken(mut same)) => {
                 let own = kept.len();
                 self.bytes = sift(
                     &mut self.kept,
-                    &terms[own..],
+                    &pages[own..],
                     &same.flags[own..],
                     self.bytes,
                 );
@@ -173,8 +179,8 @@ impl<P: Versions + Drop> Versions for Cached<P> {
 
     ghost stays = { P.stays };
 
-    ghost looks = { λ state before term after.
-        LooksIn (IsOutcome (P.site state) (P.templates state)) before term after };
+    ghost looks = { λ state before page after.
+        LooksIn (IsOutcome (P.site state) (P.templates state)) before page after };
 
     ghost renews = { λ state text before after. after ≡ record before {
       pages = kept_after (P.accepts state text) (P.stays state text) before.pages;
@@ -186,12 +192,21 @@ impl<P: Versions + Drop> Versions for Cached<P> {
         × AreSound (IsOutcome (P.site (P.state c.pages)) (P.templates (P.state c.pages)))
         c.kept.entries c.bytes c.most };
 
-    fn page(&mut self, alloc: Global, term: &Term) -> Result<Outcome, NoMemory> {
-        let (outcome, _) = self.look(alloc, term)?;
+    fn template_file(&self) -> &Templates {
+        self.pages.template_file()
+    }
+
+    fn page(&mut self, alloc: Global, page: &PageName) -> Result<Outcome, NoMemory> {
+        let (outcome, _) = self.look(alloc, page)?;
         Ok(outcome)
     }
 
-    fn change(&mut self, alloc: Global, text: &Str, kept: &[Term]) -> Result<Changed, NoMemory> {
+    fn change(
+        &mut self,
+        alloc: Global,
+        text: &Str,
+        kept: &[PageName],
+    ) -> Result<Changed, NoMemory> {
         self.renew(alloc, text, kept)
     }
 
@@ -200,58 +215,62 @@ impl<P: Versions + Drop> Versions for Cached<P> {
     }
 }
 
-/// Copies of the terms, and of those whose pages are kept.
+/// Copies of the names, and of those of the pages that are kept.
 fn all_terms(
     alloc: Global,
-    terms: &[Term],
-    kept: &LruCache<Term, Str>,
-) -> Result<Vec<Term>, NoMemory>
-    ensures { IfOk result (λ all. all.items ≡ terms.now ++ keys_of kept.now.entries) }
+    pages: &[PageName],
+    kept: &LruCache<PageName, Str>,
+) -> Result<Vec<PageName>, NoMemory>
+    ensures { IfOk result (λ all. all.items ≡ pages.now ++ keys_of kept.now.entries) }
 {
     let mut all = Vec::new(alloc);
-    for term in terms {
-        all.push(term.copy(alloc)?)?;
+    for page in pages {
+        all.push(page.copy(alloc)?)?;
     }
     push_keys(alloc, kept, &mut all)?;
     Ok(all)
 }
 
-/// Adds copies of the terms whose pages are kept, the newest first.
-fn push_keys(alloc: Global, kept: &LruCache<Term, Str>, all: &mut Vec<Term>) -> Result<(), NoMemory>
+/// Adds copies of the names of the pages that are kept, the newest first.
+fn push_keys(
+    alloc: Global,
+    kept: &LruCache<PageName, Str>,
+    all: &mut Vec<PageName>,
+) -> Result<(), NoMemory>
     ensures { OnOk result (all.new.items ≡ all.old.items ++ keys_of kept.now.entries) }
 {
-    for (term, _) in kept.iter() {
-        all.push(term.copy(alloc)?)?;
+    for (page, _) in kept.iter() {
+        all.push(page.copy(alloc)?)?;
     }
     Ok(())
 }
 
 /// Keeps the entries whose flag is true, in their order. Each has a flag, the newest first. Returns how many bytes they
 /// have, where all had this many.
-fn sift(kept: &mut LruCache<Term, Str>, terms: &[Term], flags: &[bool], all: u64) -> u64
-    requires terms { terms.now ≡ keys_of kept.old.entries }
-    requires flags { length flags.now ≡ length terms.now }
+fn sift(kept: &mut LruCache<PageName, Str>, pages: &[PageName], flags: &[bool], all: u64) -> u64
+    requires pages { pages.now ≡ keys_of kept.old.entries }
+    requires flags { length flags.now ≡ length pages.now }
     requires all { all ≡ bytes_in kept.old.entries }
     ensures entries { kept.new
         ≡ lru_cache (entries_where flags.now kept.old.entries) kept.old.cap }
     ensures bytes { result ≡ bytes_in kept.new.entries }
 {
     let mut bytes = all;
-    for (i, term) in terms.iter().enumerate() {
-        bytes -= turn(kept, term, flags[i]);
+    for (i, page) in pages.iter().enumerate() {
+        bytes -= turn(kept, page, flags[i]);
     }
     bytes
 }
 
-/// Moves the newest entry, which has this term, behind all others, or drops it. Returns how many bytes are kept no longer.
-fn turn(kept: &mut LruCache<Term, Str>, term: &Term, stays: bool) -> u64
+/// Moves the newest entry, which has this page, behind all others, or drops it. Returns how many bytes are kept no longer.
+fn turn(kept: &mut LruCache<PageName, Str>, page: &PageName, stays: bool) -> u64
     ensures entries { kept.new ≡ lru_cache
-        (if stays then demoted (is_same term.now) kept.old.entries else drop 1 kept.old.entries)
+        (if stays then demoted (is_same page.now) kept.old.entries else drop 1 kept.old.entries)
         kept.old.cap }
     ensures bytes { result + bytes_in kept.new.entries ≡ bytes_in kept.old.entries }
 {
     if stays {
-        kept.demote(term);
+        kept.demote(page);
         0
     } else {
         bytes_of(&kept.pop_mru())
@@ -259,7 +278,7 @@ fn turn(kept: &mut LruCache<Term, Str>, term: &Term, stays: bool) -> u64
 }
 
 /// How many bytes the text of an entry has, if there is one.
-fn bytes_of(entry: &Option<(Term, Str)>) -> u64
+fn bytes_of(entry: &Option<(PageName, Str)>) -> u64
     ensures { result ≡ option_map_or (λ e. length e.1) entry.now 0 }
 {
     match entry {
@@ -268,15 +287,15 @@ fn bytes_of(entry: &Option<(Term, Str)>) -> u64
     }
 }
 
-/// A copy of the text that is kept for a term.
+/// A copy of the text that is kept for a page.
 fn copy_kept(
-    kept: &LruCache<Term, Str>,
+    kept: &LruCache<PageName, Str>,
     alloc: Global,
-    term: &Term,
+    page: &PageName,
 ) -> Result<Option<Str>, NoMemory>
-    ensures { IfOk result (λ text. text ≡ lookup (is_same term.now) kept.now.entries) }
+    ensures { IfOk result (λ text. text ≡ lookup (is_same page.now) kept.now.entries) }
 {
-    match kept.peek(term) {
+    match kept.peek(page) {
         Some(text) => Ok(Some(text.copy(alloc)?)),
         None => Ok(None),
     }
@@ -285,18 +304,18 @@ fn copy_kept(
 /// Keeps a copy of a page that was not kept, where there is room for it. The pages have this many bytes, at most `most`.
 /// Returns how many they have then.
 fn keep(
-    kept: &mut LruCache<Term, Str>,
+    kept: &mut LruCache<PageName, Str>,
     alloc: Global,
-    term: &Term,
+    page: &PageName,
     outcome: &Outcome,
     bytes: u64,
     most: u64,
 ) -> Result<u64, NoMemory>
-    requires none { lookup (is_same term.now) kept.old.entries ≡ None }
+    requires none { lookup (is_same page.now) kept.old.entries ≡ None }
     requires bytes { bytes ≡ bytes_in kept.old.entries }
     requires within { bytes ≤ most }
     ensures entries { OnOk result (kept.new
-        ≡ lru_cache (entries_with most kept.old term.now outcome.now) kept.old.cap) }
+        ≡ lru_cache (entries_with most kept.old page.now outcome.now) kept.old.cap) }
     ensures bytes { IfOk result
         (λ bytes. (bytes ≡ bytes_in kept.new.entries) × (bytes ≤ most)) }
     ensures err { OnErr result (kept.new ≡ kept.old) }
@@ -304,25 +323,25 @@ fn keep(
     if let Outcome::Page(text) = outcome
         && text.bytes().len() as u64 <= most
     {
-        return add(kept, alloc, term, text, bytes, most);
+        return add(kept, alloc, page, text, bytes, most);
     }
     Ok(bytes)
 }
 
 /// Keeps a copy of a page for which there is room, and drops the oldest pages until there is.
 fn add(
-    kept: &mut LruCache<Term, Str>,
+    kept: &mut LruCache<PageName, Str>,
     alloc: Global,
-    term: &Term,
+    page: &PageName,
     text: &Str,
     bytes: u64,
     most: u64,
 ) -> Result<u64, NoMemory>
-    requires none { lookup (is_same term.now) kept.old.entries ≡ None }
+    requires none { lookup (is_same page.now) kept.old.entries ≡ None }
     requires bytes { bytes ≡ bytes_in kept.old.entries }
     requires fits { length text.now ≤ most }
     ensures entries { OnOk result (kept.new ≡ lru_cache
-        ((term.now, text.now) ∷ entries_within (most - length text.now)
+        ((page.now, text.now) ∷ entries_within (most - length text.now)
         (take (kept.old.cap - 1) kept.old.entries)) kept.old.cap) }
     ensures bytes { IfOk result
         (λ bytes. (bytes ≡ bytes_in kept.new.entries) × (bytes ≤ most)) }
@@ -332,14 +351,14 @@ fn add(
     // (so at most one is pushed out: no more are kept than there is room for)
     let _ = kept.len();
     let copy = text.copy(alloc)?;
-    let displaced = kept.push(term.copy(alloc)?, copy)?;
+    let displaced = kept.push(page.copy(alloc)?, copy)?;
     let others = bytes - bytes_of(&displaced);
     Ok(own + fit(kept, others, most - own))
 }
 
 /// Drops the oldest entries until those after the first, which have this many bytes, have at most `most`. Returns how many
 /// they have then.
-fn fit(kept: &mut LruCache<Term, Str>, all: u64, most: u64) -> u64
+fn fit(kept: &mut LruCache<PageName, Str>, all: u64, most: u64) -> u64
     requires some { 0 < length kept.old.entries }
     requires bytes { all ≡ bytes_in (drop 1 kept.old.entries) }
     ensures entries { kept.new ≡ lru_cache

@@ -2,12 +2,16 @@
 //! laws, no engine.
 #![tactic(auto)]
 
-ghost use Rattle.std.specs.Prelude.{◌≡◌};
+ghost use Rattle.std.specs.Prelude.{◌≡◌, IfOk};
+ghost use Rattle.page_spec.specs.Addresses.{own_page};
 
-use sd_value::{Str, Value};
+use sd_value::{NoMemory, Str, Term, Value};
+use std::alloc::Global;
 use std::marker::Model;
+use tmpl::Ending;
 
 mod keys;
+mod names;
 
 /// The most bytes that a page has.
 pub const PAGE_LIMIT: usize = 16_777_216;
@@ -22,6 +26,46 @@ pub enum Outcome {
     Page(Str),
     Missing,
     Cyclic(Value),
+    TooLong,
+}
+
+/// The name of a page: its term, and the ending of its address. A term has a page of each ending for which its function has
+/// a template.
+#[derive(Debug, Drop)]
+pub struct PageName {
+    pub term: Term,
+    pub ending: Ending,
+}
+
+impl PageName {
+    /// The page of the term that has no other ending.
+    pub fn own(term: Term) -> PageName
+        ensures { result ≡ own_page term }
+    {
+        PageName {
+            term,
+            ending: Ending::Html,
+        }
+    }
+
+    /// An equal name.
+    pub fn copy(&self, alloc: Global) -> Result<PageName, NoMemory>
+        ensures { IfOk result (λ p. p ≡ self.now) }
+    {
+        Ok(PageName {
+            term: self.term.copy(alloc)?,
+            ending: self.ending,
+        })
+    }
+}
+
+/// What a target shows: the text of its page and what that is, that there is none and what is shown in its place, if
+/// anything is, the address at which the page's embedding comes round again, or that its text is too long.
+#[derive(Drop)]
+pub enum Shown {
+    Page(Str, Ending),
+    Missing(Option<Str>),
+    Cyclic(Str),
     TooLong,
 }
 

@@ -1,17 +1,23 @@
 -- Plans: which condition is used next, and when a variable takes its whole domain.
 use Rattle.std.specs.Prelude.{◌≡◌, ◌⊎◌, ◌≤◌, ◌<◌, ℕ, List, [], ◌∷◌, length, Option, None, Some, Bool, true, false}
-use Rattle.std.specs.Prelude.{slice_get, slice_set, slice_index_or, if◌then◌else◌, ⊤}
+use Rattle.std.specs.Prelude.{slice_get, slice_set, slice_index_or, ◌≢◌, ⊤}
 use Rattle.store.specs.declared.Sizes.{Sizes}
-use Rattle.plan_spec.specs.declared.Shape.{Shape}
+use Rattle.query_spec.specs.declared.Sort.{Sort}
+use Rattle.query_spec.specs.declared.Sort.TheVariants.{Node, Arc, Computed}
 use Rattle.plan_spec.specs.declared.PlanStep.{PlanStep}
 use Rattle.plan_spec.specs.declared.PlanStep.TheVariants.{Use, Domain}
-use Rattle.plan_spec.specs.Cost.{cost_of}
+use Rattle.plan_spec.specs.Cost.{Shape, cost_of}
 
--- the first variable that isn't bound
-pub record IsFirstFree (bound : List Bool) (x : ℕ) : Type 0 where
+-- the variable isn't bound, and has a domain
+abbrev pub IsOpen : List Sort → List Bool → ℕ → Type 0
+IsOpen sorts bound x =
+    (slice_get bound x ≡ Some false) × (slice_get sorts x ≢ Some Computed)
+
+-- the first such variable
+pub record IsFirstOpen (sorts : List Sort) (bound : List Bool) (x : ℕ) : Type 0 where
   pub within : x < length bound
-  pub free : slice_get bound x ≡ Some false
-  pub first : (y : ℕ) → slice_get bound y ≡ Some false → x ≤ y
+  pub is_open : IsOpen sorts bound x
+  pub first : (y : ℕ) → IsOpen sorts bound y → x ≤ y
 
 -- a variable is bound from now on, if there is one
 abbrev pub bind : Option ℕ → List Bool → List Bool
@@ -22,9 +28,15 @@ bind (Some x) bound = slice_set bound x true
 abbrev pub bind_all : Shape → List Bool → List Bool
 bind_all c bound = bind c.to (bind c.arc (bind c.from bound))
 
--- the size of a variable's domain: all labels for an arc variable, or all values
-abbrev pub domain_cost : Sizes → List Bool → ℕ → ℕ
-domain_cost sizes arcs x = if slice_index_or arcs x false then sizes.labels else sizes.values
+-- the size of the domain of a variable of this sort
+abbrev pub size_of : Sizes → Sort → ℕ
+size_of sizes Node = sizes.values
+size_of sizes Arc = sizes.labels
+size_of sizes Computed = 0
+
+-- the size of a variable's domain
+abbrev pub domain_cost : Sizes → List Sort → ℕ → ℕ
+domain_cost sizes sorts x = size_of sizes (slice_index_or sorts x Node)
 
 -- which conditions have been used, and which variables are bound
 pub record State : Type 0 where
@@ -59,8 +71,8 @@ module _ (sizes : Sizes) (shapes : List Shape) where
     pub least : (j other : ℕ) → CanUse used bound j other → cost ≤ other
     pub first : (j other : ℕ) → CanUse used bound j other → j < i → cost < other
 
--- and over which of the chain's variables are arc variables
-module _ (sizes : Sizes) (arcs : List Bool) (shapes : List Shape) where
+-- and over the sorts of the chain's variables
+module _ (sizes : Sizes) (sorts : List Sort) (shapes : List Shape) where
   -- one step of a plan, from one state to the next
   abbrev pub IsStep : State → PlanStep → State → Type 0
   IsStep s (Use i cost) r =
@@ -69,7 +81,7 @@ module _ (sizes : Sizes) (arcs : List Bool) (shapes : List Shape) where
       × (r.used ≡ slice_set s.used i true) × (r.bound ≡ bind_all c s.bound)
   IsStep s (Domain x cost) r =
       ((i other : ℕ) → CanUse sizes shapes s.used s.bound i other → ⊥)
-      × IsFirstFree s.bound x × (cost ≡ domain_cost sizes arcs x)
+      × IsFirstOpen sorts s.bound x × (cost ≡ domain_cost sizes sorts x)
       × (r.used ≡ s.used) × (r.bound ≡ slice_set s.bound x true)
 
   -- steps, one after another

@@ -18,15 +18,31 @@ pub enum Kind {
     Edges(u64),
     /// Any other path.
     Walk,
+    /// A call, with its cost where its arguments are bound.
+    Call(u128),
 }
 
-/// A condition's kind and its variables, by number. What is no variable counts as bound.
-#[derive(Clone, Copy, Debug)]
+/// A condition's kind and its variables, by number. What is no variable counts as bound. It can't be used before those that
+/// it needs are bound: the arguments of a call, and the variables that a NONE shares.
+#[derive(Debug)]
 pub struct Shape {
     pub kind: Kind,
     pub from: Option<u32>,
     pub arc: Option<u32>,
     pub to: Option<u32>,
+    pub needs: Vec<u32>,
+}
+
+impl Drop for Shape {
+    fn drop(self) {
+        let Shape {
+            kind: _kind,
+            from: _from,
+            arc: _arc,
+            to: _to,
+            needs: _needs,
+        } = self;
+    }
 }
 
 /// The number of edges of a label, or of members of a collection.
@@ -67,8 +83,8 @@ impl Drop for Counts {
 /// A step of a plan, with its cost.
 #[derive(Clone, Copy, Debug)]
 pub enum PlanStep {
-    /// The condition of that number is used.
-    Use { condition: u32, cost: u128 },
+    /// The condition of that number is used; NONEs are numbered after the other conditions.
+    Use { condition: usize, cost: u128 },
     /// The variable of that number takes each value of its domain.
     Domain { variable: u32, cost: u128 },
 }

@@ -1,10 +1,12 @@
 // Which goal offers the fewest values, by counts that the store reports without making lists.
-ghost use Rattle.std.specs.Prelude.{◌≡◌, ◌<◌, ◌≤◌, ◌⊎◌, IfOk, IfSome, length, Some, slice_get};
-ghost use Rattle.condition_tests.specs.Places.{AtomInRange, GoalsInRange};
+ghost use Rattle.std.specs.Prelude.{◌≡◌, ◌<◌, ◌≤◌, ◌⊎◌, All, IfOk, IfSome, length, Some, slice_get};
+ghost use Rattle.condition_tests.specs.Places.{AtomInRange, GoalsInRange, PlaceInRange};
 ghost use Rattle.candidate_values.specs.Kept.{IsKept, IsFrom};
 
 use candidate_values::{Reaches, Search};
-use condition_tests::{Atom, Goal, Literal, Property, Relation, free_slot, known, value_of};
+use condition_tests::{
+    Atom, Goal, Literal, Property, Relation, Slot, known, open_at, open_slot, value_of,
+};
 use query_spec::Op;
 use sd_value::{Datum, NoMemory, Str, Value};
 use std::alloc::Global;
@@ -76,7 +78,7 @@ pub(crate) fn offered_by<S: Store>(
         Atom::One(_, Property::OneOf(constants)) => {
             (constants.items().len() as u64).saturating_mul(2)
         }
-        Atom::One(_, Property::Kind(_)) => search.store.sizes().values,
+        Atom::One(_, Property::Kind(_) | Property::Matches(_)) => search.store.sizes().values,
         Atom::Two(from, relation, to) => related_at(
             search.store,
             known(from, current),
@@ -89,7 +91,24 @@ pub(crate) fn offered_by<S: Store>(
             value_of(*arc, current),
             known(to, current),
         ),
+        Atom::Call(_, _, args) => if are_known(args, current) {
+            1
+        } else {
+            search.store.sizes().values
+        },
     }
+}
+
+// Whether all of the places are known.
+pub(crate) fn are_known(places: &[Slot], current: &[Option<Value>]) -> bool
+    requires { All (PlaceInRange (length current.now)) places.now }
+{
+    for place in places {
+        if known(place, current).is_none() {
+            return false;
+        }
+    }
+    true
 }
 
 // Whether the literal is an edge or an equation with an end that is known.
@@ -115,17 +134,18 @@ pub fn literal_at(goals: &[Goal], goal: usize) -> Option<&Literal>
 {
     match &goals[goal] {
         Goal::Holds(literal) => Some(literal),
-        Goal::Domain(_) => None,
+        Goal::Domain(_) | Goal::NoneOf(_) => None,
     }
 }
 
 // How many values the goal offers for a free variable by an edge or an equation with an end that is known.
 fn led_count<S: Store>(search: &Search<S>, goal: usize, current: &[Option<Value>]) -> Option<u64>
+    requires as_long { length search.now.sorts.now ≡ length current.now }
     requires in_range { GoalsInRange (length current.now) search.now.goals.now }
     requires within { goal < length search.now.goals.now }
 {
     let literal = literal_at(search.goals, goal)?;
-    if is_led(literal, current) && free_slot(&literal.atom, current).is_some() {
+    if is_led(literal, current) && open_slot(&literal.atom, search.sorts, current).is_some() {
         Some(offered_by(search, literal, current))
     } else {
         None
@@ -141,6 +161,7 @@ fn walk_count<S: Store>(
     current: &[Option<Value>],
     limit: usize,
 ) -> Result<Option<u64>, NoMemory>
+    requires as_long { length search.now.sorts.now ≡ length current.now }
     requires in_range { GoalsInRange (length current.now) search.now.goals.now }
     requires within { goal < length search.now.goals.now }
     requires kept { IsKept (S.graph search.now.store.now) search.now.goals.now kept.old }
@@ -156,6 +177,11 @@ fn walk_count<S: Store>(
     let Atom::Two(from, Relation::Walk(automaton), to) = &literal.atom else {
         return Ok(None);
     };
+    if open_at(from, search.sorts, current).is_none()
+        && open_at(to, search.sorts, current).is_none()
+    {
+        return Ok(None);
+    }
     match (known(from, current), known(to, current)) {
         (Some(u), None) => kept.count_within(
             alloc,
@@ -217,6 +243,7 @@ fn fewest_edges<S: Store>(
     current: &[Option<Value>],
     count: u64,
 ) -> Least
+    requires as_long { length search.now.sorts.now ≡ length current.now }
     requires in_range { GoalsInRange (length current.now) search.now.goals.now }
     requires within { at < length search.now.goals.now }
     ensures { IsFrom search.now.goals.now at result.goal }
@@ -245,6 +272,7 @@ fn fewest_walked<S: Store>(
     current: &[Option<Value>],
     least: Least,
 ) -> Result<usize, NoMemory>
+    requires as_long { length search.now.sorts.now ≡ length current.now }
     requires in_range { GoalsInRange (length current.now) search.now.goals.now }
     requires within { at < length search.now.goals.now }
     requires from { IsFrom search.now.goals.now at least.goal }
@@ -272,6 +300,7 @@ pub fn fewest<S: Store>(
     at: usize,
     current: &[Option<Value>],
 ) -> Result<usize, NoMemory>
+    requires as_long { length search.now.sorts.now ≡ length current.now }
     requires in_range { GoalsInRange (length current.now) search.now.goals.now }
     requires within { at < length search.now.goals.now }
     requires kept { IsKept (S.graph search.now.store.now) search.now.goals.now kept.old }
@@ -285,7 +314,7 @@ pub fn fewest<S: Store>(
     let Some(literal) = literal_at(search.goals, at) else {
         return Ok(at);
     };
-    if free_slot(&literal.atom, current).is_none() {
+    if open_slot(&literal.atom, search.sorts, current).is_none() {
         return Ok(at);
     }
     let count = offered_by(search, literal, current);

@@ -1,20 +1,20 @@
 // The goals that were made last, kept for questions of the same chain.
 ghost use Rattle.std.specs.Prelude.{◌≡◌, IfOk, IsTrue, length, map};
 ghost use Rattle.query_spec.specs.Mentions.{IsWellMade};
-ghost use Rattle.struql_ast.specs.Reading.{condition_of};
+ghost use Rattle.struql_ast.specs.Reading.{condition_of, none_of};
 ghost use Rattle.condition_tests.specs.Resolved.{AreGoalsOf};
 ghost use Rattle.condition_tests.specs.Places.{GoalsInRange};
 
 use crate::follow::goals_along;
 use condition_tests::Goal;
 use planner::{counts_of, plan};
-use query_parts::{push_conditions, same_conditions};
-use query_spec::{Bound, Variable};
+use query_parts::{copied_variables, push_conditions, push_nones, same_conditions};
+use query_spec::{Bound, Sort, Variable};
 use sd_value::{NoMemory, Value};
 use std::alloc::Global;
 use std::marker::Model;
 use store::Store;
-use struql_ast::{Chain, Condition};
+use struql_ast::{Chain, Condition, NoneOf};
 
 /// Goals in the order of a plan, and what they were made for: the variables and conditions of a chain, about how many
 /// edges there were, and which variables had values. A search is exact along each order of the goals, so the last two
@@ -25,6 +25,7 @@ pub struct KeptPlan {
     bound: Vec<bool>,
     variables: Vec<Variable>,
     conditions: Vec<Condition>,
+    nones: Vec<NoneOf>,
     goals: Vec<Goal>,
 }
 
@@ -49,16 +50,21 @@ impl KeptPlan {
     }
 }
 
-fn is_same_flag(one: bool, other: bool) -> bool
+fn is_same_sort(one: Sort, other: Sort) -> bool
     ensures { IsTrue result → one ≡ other }
 {
-    if one { other } else { !other }
+    match (one, other) {
+        (Sort::Node, Sort::Node) | (Sort::Arc, Sort::Arc) | (Sort::Computed, Sort::Computed) => {
+            true
+        }
+        _ => false,
+    }
 }
 
 fn is_same_variable(one: &Variable, other: &Variable) -> bool
     ensures { IsTrue result → one.now ≡ other.now }
 {
-    one.name == other.name && is_same_flag(one.arc, other.arc)
+    one.name == other.name && is_same_sort(one.sort, other.sort)
 }
 
 // Whether they are the same variables.
@@ -91,18 +97,19 @@ fn are_same_conditions(some: &[Condition], others: &[Condition]) -> bool
     true
 }
 
-// Equal variables.
-fn copied_variables(alloc: Global, variables: &[Variable]) -> Result<Vec<Variable>, NoMemory>
-    ensures { IfOk result (λ copies. copies.items ≡ variables.now) }
+// Whether they are the same NONEs, their places aside.
+fn are_same_nones(some: &[NoneOf], others: &[NoneOf]) -> bool
+    ensures { IsTrue result → map none_of some.now ≡ map none_of others.now }
 {
-    let mut copies = Vec::new(alloc);
-    for variable in variables {
-        copies.push(Variable {
-            name: variable.name.copy(alloc)?,
-            arc: variable.arc,
-        })?;
+    if some.len() != others.len() {
+        return false;
     }
-    Ok(copies)
+    for i in 0..some.len() {
+        if !are_same_conditions(&some[i].conditions, &others[i].conditions) {
+            return false;
+        }
+    }
+    true
 }
 
 // Which variables have values at first.
@@ -141,6 +148,7 @@ fn is_made_for(kept: &KeptPlan, chain: &Chain) -> bool
 {
     are_same_variables(chain.variables(), kept.variables.as_slice())
         && are_same_conditions(kept.conditions.as_slice(), chain.conditions())
+        && are_same_nones(kept.nones.as_slice(), chain.nones())
 }
 
 // Goals for the chain, along the plan that the store's counts give.
@@ -158,15 +166,18 @@ fn made_for<S: Store>(
 {
     let counts = counts_of(alloc, store, chain)?;
     let steps = plan(alloc, chain, bound.as_slice(), &counts)?;
-    let goals = goals_along(alloc, chain.variables(), chain.conditions(), steps.steps())?;
+    let goals = goals_along(alloc, store, chain, steps.steps())?;
     let variables = copied_variables(alloc, chain.variables())?;
     let mut conditions = Vec::new(alloc);
     push_conditions(alloc, &mut conditions, chain.conditions())?;
+    let mut nones = Vec::new(alloc);
+    push_nones(alloc, &mut nones, chain.nones())?;
     Ok(KeptPlan {
         edges,
         bound,
         variables,
         conditions,
+        nones,
         goals,
     })
 }

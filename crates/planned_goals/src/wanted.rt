@@ -1,12 +1,14 @@
 // Which goal of a search leads to the variables that are wanted.
-ghost use Rattle.std.specs.Prelude.{◌≡◌, ◌<◌, ℕ, List, IfOk, IfSome, length};
+ghost use Rattle.std.specs.Prelude.{◌≡◌, ◌<◌, ℕ, All, List, IfOk, IfSome, length};
 ghost use Rattle.condition_tests.specs.Places.{AtomInRange, GoalsInRange, PlaceInRange};
 ghost use Rattle.candidate_values.specs.Kept.{IsFrom};
 
-use crate::counts::{FEW, Least, end_of_look, literal_at, offered_by, or_fewer};
+use crate::counts::{FEW, Least, are_known, end_of_look, literal_at, offered_by, or_fewer};
 use candidate_values::Search;
-use condition_tests::{Atom, Goal, Literal, Property, Relation, Slot, free_at, known, value_of};
-use query_spec::Op;
+use condition_tests::{
+    Atom, Goal, Literal, Property, Relation, Slot, free_at, known, open_at, value_of,
+};
+use query_spec::{Op, Sort};
 use sd_value::{NoMemory, Value};
 use std::alloc::Global;
 use store::Store;
@@ -29,10 +31,11 @@ fn is_set(flags: &[bool], slot: usize) -> bool {
 }
 
 // Whether the place is a variable that has no value, and its flag is set.
-fn is_open(place: &Slot, flags: &[bool], current: &[Option<Value>]) -> bool
-    requires { PlaceInRange (length current.now) place.now }
+fn is_open(place: &Slot, flags: &[bool], sorts: &[Sort], current: &[Option<Value>]) -> bool
+    requires in_range { PlaceInRange (length current.now) place.now }
+    requires as_long { length sorts.now ≡ length current.now }
 {
-    match free_at(place, current) {
+    match open_at(place, sorts, current) {
         Some(slot) => is_set(flags, slot),
         None => false,
     }
@@ -45,18 +48,74 @@ fn is_open_arc(arc: usize, flags: &[bool], current: &[Option<Value>]) -> bool
 }
 
 // Whether a variable of the atom has no value, and its flag is set.
-fn touches(atom: &Atom, flags: &[bool], current: &[Option<Value>]) -> bool
+fn touches(atom: &Atom, flags: &[bool], sorts: &[Sort], current: &[Option<Value>]) -> bool
+    requires in_range { AtomInRange (length current.now) atom.now }
+    requires as_long { length sorts.now ≡ length current.now }
+{
+    match atom {
+        Atom::One(place, _) => is_open(place, flags, sorts, current),
+        Atom::Two(from, _, to) => {
+            is_open(from, flags, sorts, current) || is_open(to, flags, sorts, current)
+        }
+        Atom::Arc(from, arc, to) => {
+            is_open(from, flags, sorts, current)
+                || is_open_arc(*arc, flags, current)
+                || is_open(to, flags, sorts, current)
+        }
+        Atom::Call(left, _, args) => {
+            is_open(left, flags, sorts, current) || one_is_open(args, flags, sorts, current)
+        }
+    }
+}
+
+fn one_is_open(places: &[Slot], flags: &[bool], sorts: &[Sort], current: &[Option<Value>]) -> bool
+    requires in_range { All (PlaceInRange (length current.now)) places.now }
+    requires as_long { length sorts.now ≡ length current.now }
+{
+    for place in places {
+        if is_open(place, flags, sorts, current) {
+            return true;
+        }
+    }
+    false
+}
+
+// Whether a variable of the atom that has no value yet has its flag set, computed ones among them.
+fn joins(atom: &Atom, flags: &[bool], current: &[Option<Value>]) -> bool
     requires { AtomInRange (length current.now) atom.now }
 {
     match atom {
-        Atom::One(place, _) => is_open(place, flags, current),
-        Atom::Two(from, _, to) => is_open(from, flags, current) || is_open(to, flags, current),
+        Atom::One(place, _) => is_free(place, flags, current),
+        Atom::Two(from, _, to) => is_free(from, flags, current) || is_free(to, flags, current),
         Atom::Arc(from, arc, to) => {
-            is_open(from, flags, current)
+            is_free(from, flags, current)
                 || is_open_arc(*arc, flags, current)
-                || is_open(to, flags, current)
+                || is_free(to, flags, current)
+        }
+        Atom::Call(left, _, args) => {
+            is_free(left, flags, current) || one_is_free(args, flags, current)
         }
     }
+}
+
+fn is_free(place: &Slot, flags: &[bool], current: &[Option<Value>]) -> bool
+    requires { PlaceInRange (length current.now) place.now }
+{
+    match free_at(place, current) {
+        Some(slot) => is_set(flags, slot),
+        None => false,
+    }
+}
+
+fn one_is_free(places: &[Slot], flags: &[bool], current: &[Option<Value>]) -> bool
+    requires { All (PlaceInRange (length current.now)) places.now }
+{
+    for place in places {
+        if is_free(place, flags, current) {
+            return true;
+        }
+    }
+    false
 }
 
 // Whether the atom offers values by an end that is known.
@@ -71,6 +130,7 @@ fn offers_by_end(atom: &Atom, current: &[Option<Value>]) -> bool
         }
         Atom::Two(_, _, _) => false,
         Atom::Arc(from, _, to) => known(from, current).is_some() || known(to, current).is_some(),
+        Atom::Call(_, _, args) => are_known(args, current),
     }
 }
 
@@ -81,13 +141,14 @@ fn leading_count<S: Store>(
     flags: &[bool],
     current: &[Option<Value>],
 ) -> Option<u64>
+    requires as_long { length search.now.sorts.now ≡ length current.now }
     requires in_range { GoalsInRange (length current.now) search.now.goals.now }
     requires within { goal < length search.now.goals.now }
 {
     let literal = literal_at(search.goals, goal)?;
     if !literal.negated
         && offers_by_end(&literal.atom, current)
-        && touches(&literal.atom, flags, current)
+        && touches(&literal.atom, flags, search.sorts, current)
     {
         Some(offered_by(search, literal, current))
     } else {
@@ -102,6 +163,7 @@ fn leading<S: Store>(
     flags: &[bool],
     current: &[Option<Value>],
 ) -> Option<Least>
+    requires as_long { length search.now.sorts.now ≡ length current.now }
     requires in_range { GoalsInRange (length current.now) search.now.goals.now }
     requires within { at < length search.now.goals.now }
     ensures { IfSome result (λ l. IsFrom search.now.goals.now at l.goal) }
@@ -174,6 +236,12 @@ fn mark_atom(atom: &Atom, flags: &mut [bool])
             mark(*arc, flags);
             mark_place(to, flags);
         }
+        Atom::Call(left, _, args) => {
+            mark_place(left, flags);
+            for place in args {
+                mark_place(place, flags);
+            }
+        }
     }
 }
 
@@ -183,7 +251,7 @@ fn spread(goals: &[Goal], current: &[Option<Value>], flags: &mut [bool])
 {
     for goal in 0..goals.len().min(LOOKED) {
         if let Some(literal) = literal_at(goals, goal) {
-            if touches(&literal.atom, flags, current) {
+            if joins(&literal.atom, flags, current) {
                 mark_atom(&literal.atom, flags);
             }
         }
@@ -224,7 +292,8 @@ impl<'a> Wanted<'a> {
         at: usize,
         current: &[Option<Value>],
     ) -> Option<usize>
-        requires in_range { GoalsInRange (length current.now) search.now.goals.now }
+        requires as_long { length search.now.sorts.now ≡ length current.now }
+    requires in_range { GoalsInRange (length current.now) search.now.goals.now }
         requires within { at < length search.now.goals.now }
         ensures { IfSome result (IsFrom search.now.goals.now at) }
     {

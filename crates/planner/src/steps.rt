@@ -1,21 +1,21 @@
 //! Plans.
-ghost use Rattle.std.specs.Prelude.{◌≡◌, ◌↔◌, ◌<◌, ◌≤◌, ◌^◌, IsTrue, ℕ, length, IfOk, MatchOption, Option, None};
+ghost use Rattle.std.specs.Prelude.{◌≡◌, ◌↔◌, ◌<◌, ◌≤◌, ◌^◌, IsTrue, ℕ, ◌+◌, length, IfOk, MatchOption, Option, None};
 ghost use Rattle.std.specs.Prelude.{Some, slice_get, slice_set, true, false, if◌then◌else◌};
-ghost use Rattle.plan_spec.specs.Cost.{cost_of};
+ghost use Rattle.plan_spec.specs.Cost.{shape_value, shape_values, cost_of};
+ghost use Rattle.plan_spec.specs.Cost.{Shape as PlainShape};
 ghost use Rattle.planner.specs.Ranges.{SideInRange, ShapeInRange, ShapesInRange};
-ghost use Rattle.plan_spec.specs.Plan.{CanUse, IsBest, IsFirstFree, AllFalse, Uses, IsPlan, bind, bind_all};
-ghost use Rattle.planner.specs.Choices.{IsBetter, CostsNothing, IsBestFrom, AreCostlyBefore, LooksFrom, BindsShape, TakesDomain, IsNext};
+ghost use Rattle.plan_spec.specs.Plan.{CanUse, IsBest, IsOpen, IsFirstOpen, size_of, AllFalse, Uses, IsPlan, bind, bind_all};
+ghost use Rattle.planner.specs.Choices.{IsBetter, CostsNothing, IsBestFrom, AreCostlyBefore, LooksFrom, BindsShape, TakesDomain, IsNext, AreOrdered, AreGiven};
 ghost use Rattle.std.specs.Prelude.{List, Bool};
 ghost use Rattle.store.specs.declared.Sizes.{Sizes as PlainSizes};
-ghost use Rattle.plan_spec.specs.declared.Shape.{Shape as PlainShape};
-ghost use Rattle.query_spec.specs.Mentions.{IsWellMade};
+ghost use Rattle.planner.specs.Choices.{IsOrderedChain};
 ghost use Rattle.plan_spec.specs.Plan.{NoneTwice, AreStepsOver, IsTheOnlyPlan};
 ghost use Rattle.plan_spec.specs.Shape.{IsPlanOf};
 
 use crate::cost::{are_bound, cost};
 use crate::shape::shapes_of_chain;
 use plan_spec::{Counts, PlanStep, Shape};
-use query_spec::arcs_of_variables;
+use query_spec::{Sort, sorts_of_variables};
 use sd_value::NoMemory;
 use std::alloc::{AllocError, Global};
 use std::marker::Model;
@@ -31,8 +31,8 @@ pub(crate) struct Candidate {
 
 // The cost of a condition that isn't used yet.
 fn open_cost(shape: &Shape, used: bool, sizes: Sizes, bound: &[bool]) -> Option<u128>
-    requires { ShapeInRange (length bound.now) shape.now }
-    ensures { result ≡ (if used then None else cost_of sizes bound.now shape.now) }
+    requires { ShapeInRange (length bound.now) (shape_value shape.now) }
+    ensures { result ≡ (if used then None else cost_of sizes bound.now (shape_value shape.now)) }
 {
     if used {
         None
@@ -71,10 +71,12 @@ fn best_from(
     from: usize,
 ) -> Option<Candidate>
     requires as_long { length used.now ≡ length shapes.now }
-    requires in_range { ShapesInRange (length bound.now) shapes.now }
+    requires in_range { ShapesInRange (length bound.now) (shape_values shapes.now) }
     ensures { MatchOption result
-        ((i cost : ℕ) → from ≤ i → CanUse sizes shapes.now used.now bound.now i cost → ⊥)
-        (λ c. IsBestFrom sizes shapes.now used.now bound.now from c.condition c.cost) }
+        ((i cost : ℕ) → from ≤ i
+        → CanUse sizes (shape_values shapes.now) used.now bound.now i cost → ⊥)
+        (λ c. IsBestFrom sizes (shape_values shapes.now) used.now bound.now from c.condition
+        c.cost) }
 {
     let mut best = None;
     for i in from..shapes.len() {
@@ -96,11 +98,12 @@ fn best(
     from: usize,
 ) -> Option<Candidate>
     requires as_long { length used.now ≡ length shapes.now }
-    requires in_range { ShapesInRange (length bound.now) shapes.now }
-    requires costly_before { AreCostlyBefore sizes shapes.now used.now bound.now from }
+    requires in_range { ShapesInRange (length bound.now) (shape_values shapes.now) }
+    requires costly_before { AreCostlyBefore sizes (shape_values shapes.now) used.now bound.now
+        from }
     ensures { MatchOption result
-        ((i cost : ℕ) → CanUse sizes shapes.now used.now bound.now i cost → ⊥)
-        (λ c. IsBest sizes shapes.now used.now bound.now c.condition c.cost) }
+        ((i cost : ℕ) → CanUse sizes (shape_values shapes.now) used.now bound.now i cost → ⊥)
+        (λ c. IsBest sizes (shape_values shapes.now) used.now bound.now c.condition c.cost) }
 {
     let next = best_from(shapes, sizes, used, bound, from);
     if from == 0 {
@@ -115,10 +118,9 @@ fn best(
 // Where the next look for a condition that costs nothing begins, once this one is used: behind it, where it binds
 // nothing new, since costs stay as they are then.
 fn look_from(shapes: &[Shape], condition: usize, bound: &[bool]) -> usize
-    requires in_range { ShapesInRange (length bound.now) shapes.now }
+    requires in_range { ShapesInRange (length bound.now) (shape_values shapes.now) }
     requires within { condition < length shapes.now }
-    requires few_conditions { length shapes.now < 2 ^ 32 }
-    ensures { LooksFrom shapes.now condition bound.now result }
+    ensures { LooksFrom (shape_values shapes.now) condition bound.now result }
 {
     if are_bound(&shapes[condition], bound) {
         condition + 1
@@ -127,12 +129,19 @@ fn look_from(shapes: &[Shape], condition: usize, bound: &[bool]) -> usize
     }
 }
 
-fn first_free(bound: &[bool]) -> Option<usize>
-    ensures { MatchOption result ((x : ℕ) → slice_get bound.now x ≡ Some false → ⊥)
-        (λ x. IsFirstFree bound.now x) }
+fn is_computed(sort: Sort) -> bool
+    ensures { IsTrue result ↔ (sort ≡ Sort.Computed) }
+{
+    matches!(sort, Sort::Computed)
+}
+
+fn first_open(sorts: &[Sort], bound: &[bool]) -> Option<usize>
+    requires { length sorts.now ≡ length bound.now }
+    ensures { MatchOption result ((x : ℕ) → IsOpen sorts.now bound.now x → ⊥)
+        (λ x. IsFirstOpen sorts.now bound.now x) }
 {
     for x in 0..bound.len() {
-        if !bound[x] {
+        if !bound[x] && !is_computed(sorts[x]) {
             return Some(x);
         }
     }
@@ -149,45 +158,46 @@ fn bind_side(side: Option<u32>, bound: &mut Vec<bool>)
 }
 
 fn bind_shape(shape: &Shape, bound: &mut Vec<bool>)
-    requires { ShapeInRange (length bound.old.items) shape.now }
-    ensures { bound.new.items ≡ bind_all shape.now bound.old.items }
+    requires { ShapeInRange (length bound.old.items) (shape_value shape.now) }
+    ensures { bound.new.items ≡ bind_all (shape_value shape.now) bound.old.items }
 {
     bind_side(shape.from, bound);
     bind_side(shape.arc, bound);
     bind_side(shape.to, bound);
 }
 
-fn domain_size(sizes: Sizes, arc: bool) -> u128
-    ensures { result ≡ (if arc then sizes.labels else sizes.values) }
+fn domain_size(sizes: Sizes, sort: Sort) -> u128
+    ensures { result ≡ size_of sizes sort }
 {
-    if arc {
-        sizes.labels as u128
-    } else {
-        sizes.values as u128
+    match sort {
+        Sort::Node => sizes.values as u128,
+        Sort::Arc => sizes.labels as u128,
+        Sort::Computed => 0,
     }
 }
 
 // Uses the condition.
 fn use_condition(shapes: &[Shape], condition: usize, used: &mut Vec<bool>, bound: &mut Vec<bool>)
-    requires in_range { ShapesInRange (length bound.old.items) shapes.now }
+    requires in_range { ShapesInRange (length bound.old.items) (shape_values shapes.now) }
     requires within { condition < length shapes.now }
     requires as_long { length used.old.items ≡ length shapes.now }
     ensures used { used.new.items ≡ slice_set used.old.items condition true }
-    ensures bound { BindsShape shapes.now condition bound.old.items bound.new.items }
+    ensures bound { BindsShape (shape_values shapes.now) condition bound.old.items
+        bound.new.items }
 {
     used[condition] = true;
     bind_shape(&shapes[condition], bound);
 }
 
 // Gives the first free variable its domain, if there is one.
-fn take_domain(arcs: &[bool], sizes: Sizes, bound: &mut Vec<bool>) -> Option<PlanStep>
-    requires one_each { length arcs.now ≡ length bound.old.items }
+fn take_domain(sorts: &[Sort], sizes: Sizes, bound: &mut Vec<bool>) -> Option<PlanStep>
+    requires one_each { length sorts.now ≡ length bound.old.items }
     requires few_variables { length bound.old.items < 2 ^ 32 }
     ensures lengths { length bound.new.items ≡ length bound.old.items }
-    ensures step { TakesDomain sizes arcs.now bound.old.items result bound.new.items }
+    ensures step { TakesDomain sizes sorts.now bound.old.items result bound.new.items }
 {
-    let variable = first_free(bound.as_slice())?;
-    let cost = domain_size(sizes, arcs[variable]);
+    let variable = first_open(sorts, bound.as_slice())?;
+    let cost = domain_size(sizes, sorts[variable]);
     bound[variable] = true;
     Some(PlanStep::Domain {
         variable: variable as u32,
@@ -199,36 +209,40 @@ fn take_domain(arcs: &[bool], sizes: Sizes, bound: &mut Vec<bool>) -> Option<Pla
 // `from` costs nothing.
 fn advance(
     shapes: &[Shape],
-    arcs: &[bool],
+    sorts: &[Sort],
     sizes: Sizes,
     used: &mut Vec<bool>,
     bound: &mut Vec<bool>,
     from: &mut usize,
 ) -> Option<PlanStep>
-    requires in_range { ShapesInRange (length bound.old.items) shapes.now }
+    requires in_range { ShapesInRange (length bound.old.items) (shape_values shapes.now) }
     requires as_long { length used.old.items ≡ length shapes.now }
-    requires one_each { length arcs.now ≡ length bound.old.items }
-    requires few_conditions { length shapes.now < 2 ^ 32 }
+    requires one_each { length sorts.now ≡ length bound.old.items }
     requires few_variables { length bound.old.items < 2 ^ 32 }
-    requires costly_before { AreCostlyBefore sizes shapes.now used.old.items bound.old.items
+    requires ordered { AreOrdered sorts.now (shape_values shapes.now) bound.old.items }
+    requires given { AreGiven (shape_values shapes.now) used.old.items bound.old.items }
+    requires costly_before { AreCostlyBefore sizes (shape_values shapes.now) used.old.items
+        bound.old.items
         from.old }
-    ensures costly_before { AreCostlyBefore sizes shapes.now used.new.items bound.new.items
+    ensures costly_before { AreCostlyBefore sizes (shape_values shapes.now) used.new.items
+        bound.new.items
         from.new }
     ensures lengths { (length used.new.items ≡ length used.old.items)
         × (length bound.new.items ≡ length bound.old.items) }
-    ensures step { IsNext sizes arcs.now shapes.now used.old.items bound.old.items result
-        used.new.items bound.new.items }
+    ensures given { AreGiven (shape_values shapes.now) used.new.items bound.new.items }
+    ensures step { IsNext sizes sorts.now (shape_values shapes.now) used.old.items
+        bound.old.items result used.new.items bound.new.items }
 {
     if let Some(next) = best(shapes, sizes, used.as_slice(), bound.as_slice(), *from) {
         *from = look_from(shapes, next.condition, bound.as_slice());
         use_condition(shapes, next.condition, used, bound);
         return Some(PlanStep::Use {
-            condition: next.condition as u32,
+            condition: next.condition,
             cost: next.cost,
         });
     }
     *from = 0;
-    take_domain(arcs, sizes, bound)
+    take_domain(sorts, sizes, bound)
 }
 
 /// The steps of a plan.
@@ -269,15 +283,16 @@ fn none_used(alloc: Global, count: usize) -> Result<Vec<bool>, AllocError>
 pub(crate) fn make_plan(
     alloc: Global,
     shapes: &[Shape],
-    arcs: &[bool],
+    sorts: &[Sort],
     sizes: Sizes,
     bound: &[bool],
 ) -> Result<StepList, AllocError>
-    requires in_range { ShapesInRange (length bound.now) shapes.now }
-    requires one_each { length arcs.now ≡ length bound.now }
-    requires few_conditions { length shapes.now < 2 ^ 32 }
+    requires in_range { ShapesInRange (length bound.now) (shape_values shapes.now) }
+    requires one_each { length sorts.now ≡ length bound.now }
     requires few_variables { length bound.now < 2 ^ 32 }
-    ensures plan { IfOk result (λ steps. IsPlan sizes arcs.now shapes.now bound.now steps) }
+    requires ordered { AreOrdered sorts.now (shape_values shapes.now) bound.now }
+    ensures plan { IfOk result
+        (λ steps. IsPlan sizes sorts.now (shape_values shapes.now) bound.now steps) }
     ensures uses_all { IfOk result (λ steps. (i : ℕ) → i < length shapes.now → Uses steps i) }
     ensures none_twice { IfOk result NoneTwice }
     ensures in_range { IfOk result (AreStepsOver (length shapes.now) (length bound.now)) }
@@ -286,7 +301,7 @@ pub(crate) fn make_plan(
     let mut bound = bound.to_vec(alloc)?;
     let mut steps = Vec::new(alloc);
     let mut from = 0;
-    while let Some(step) = advance(shapes, arcs, sizes, &mut used, &mut bound, &mut from) {
+    while let Some(step) = advance(shapes, sorts, sizes, &mut used, &mut bound, &mut from) {
         steps.push(step)?;
     }
     Ok(StepList { steps })
@@ -302,21 +317,22 @@ pub fn plan(
     bound: &[bool],
     counts: &Counts,
 ) -> Result<StepList, NoMemory>
-    requires well_made { IsWellMade chain.now }
+    requires few_variables { length chain.now.variables < 2 ^ 32 }
     requires one_each { length bound.now ≡ length chain.now.variables }
+    requires ordered { IsOrderedChain chain.now bound.now }
     ensures plan { IfOk result (IsPlanOf counts.now chain.now bound.now) }
-    ensures uses_all { IfOk result (λ steps. (i : ℕ) → i < length chain.now.conditions
-        → Uses steps i) }
+    ensures uses_all { IfOk result (λ steps. (i : ℕ)
+        → i < length chain.now.conditions + length chain.now.nones → Uses steps i) }
     ensures none_twice { IfOk result NoneTwice }
-    ensures in_range { IfOk result (AreStepsOver (length chain.now.conditions)
-        (length chain.now.variables)) }
+    ensures in_range { IfOk result (AreStepsOver
+        (length chain.now.conditions + length chain.now.nones) (length chain.now.variables)) }
 {
     let shapes = shapes_of_chain(alloc, counts, chain)?;
-    let arcs = arcs_of_variables(alloc, chain.variables())?;
+    let sorts = sorts_of_variables(alloc, chain.variables())?;
     let steps = make_plan(
         alloc,
         shapes.as_slice(),
-        arcs.as_slice(),
+        sorts.as_slice(),
         counts.sizes,
         bound,
     )?;
@@ -325,6 +341,6 @@ pub fn plan(
 
 /// Where it begins decides a plan.
 pub fn a_plan_is_the_only_one()
-    ensures { (sizes : PlainSizes) (arcs : List Bool) (shapes : List PlainShape)
-        (bound : List Bool) → IsTheOnlyPlan sizes arcs shapes bound }
+    ensures { (sizes : PlainSizes) (sorts : List Sort) (shapes : List PlainShape)
+        (bound : List Bool) → IsTheOnlyPlan sizes sorts shapes bound }
 {}

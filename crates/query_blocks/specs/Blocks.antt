@@ -16,6 +16,7 @@ use Rattle.query_blocks.specs.declared.QueryBlocks.{QueryBlocks}
 abbrev pub body_of : QueryBlock → Body
 body_of s = record {
   conditions = s.chain.conditions;
+  nones = s.chain.nones;
   creates = map term_of s.creates.items;
   links = map link_of s.links.items;
   collects = map collect_of s.collects.items;
@@ -43,7 +44,7 @@ IsNodeWritten target = (n : Name) × (target ≡ plain (constant (Data (Node n))
 
 -- what is checked of a block
 pub record IsCheckedBlock (version : ℕ) (s : QueryBlock) : Type 0 where
-  pub chain : s.chain ≡ chain_of version s.chain.conditions
+  pub chain : s.chain ≡ chain_of version s.chain.conditions s.chain.nones
   pub well_made : IsWellMade s.chain
   pub terms : (t : SkolemTerm) → Contains (terms_of (body_of s)) t → AllDeclared s.chain.variables t
   pub sources : (k : Link) → Contains (map link_of s.links.items) k → IsMade k.source

@@ -4,14 +4,19 @@ use Rattle.std.specs.Cmp.Lexicographic.{pointwise}
 use Rattle.std.specs.Ordering.{eq_by_cmp}
 use Rattle.sd_value.specs.declared.Value.{Value}
 use Rattle.sd_value.specs.Order.{value_cmp}
-use Rattle.value_texts.specs.declared.TextTest.TheVariants.{Starts, Ends, Has}
+use Rattle.value_texts.specs.declared.TextTest.TheVariants.{Starts, Ends, Has, Matches}
 use Rattle.rpe.specs.Regex.{Regex, label, any, empty, seq, alt, star}
+use Rattle.std.specs.Str.{bytes_eq}
+use Rattle.function_spec.specs.declared.Function.{Function}
+use Rattle.function_names.specs.Names.{name_of}
+use Rattle.query_spec.specs.declared.CallSign.{CallSign}
+use Rattle.query_spec.specs.declared.CallSign.TheVariants.{Equals, In}
 use Rattle.query_spec.specs.declared.Op.{Op}
 use Rattle.query_spec.specs.declared.Op.TheVariants.{Eq, Ne, Lt, Le, Gt, Ge, Texts}
 use Rattle.query_spec.specs.declared.Test.{Test}
 use Rattle.query_spec.specs.declared.Test.TheVariants.{IsInt, IsText, IsUrl, IsFile, IsNode}
 use Rattle.query_spec.specs.Query.{Operand, variable, constant, PathStep, arc_variable, expression, Condition, member}
-use Rattle.query_spec.specs.Query.{path, compare, one_of, kind, negation, SkolemTerm, Target, plain, made}
+use Rattle.query_spec.specs.Query.{path, compare, one_of, kind, negation, gives, SkolemTerm, Target, plain, made}
 use Rattle.query_spec.specs.Query.{Aggregate, count_of, min_of, max_of, sum_of, summed}
 use Rattle.query_spec.specs.Mentions.{same_name}
 
@@ -44,6 +49,7 @@ op_number Ge = 5
 op_number (Texts Starts) = 6
 op_number (Texts Ends) = 7
 op_number (Texts Has) = 8
+op_number (Texts Matches) = 9
 
 -- the operators are the same
 abbrev pub same_op : Op → Op → Bool
@@ -75,6 +81,16 @@ same_step (arc_variable x) (expression s) = false
 same_step (expression r) (arc_variable y) = false
 same_step (expression r) (expression s) = same_regex r s
 
+-- the signs of calls are the same
+abbrev pub same_sign : CallSign → CallSign → Bool
+same_sign Equals Equals = true
+same_sign In In = true
+same_sign s r = false
+
+-- the functions are the same
+abbrev pub same_function : Function → Function → Bool
+same_function f g = bytes_eq (name_of f) (name_of g)
+
 -- the conditions are the same
 abbrev pub same_condition : Condition → Condition → Bool
 same_condition (member c x) (member d y) = same_name c d && same_name x y
@@ -85,6 +101,9 @@ same_condition (compare t o u) (compare v p z) =
 same_condition (one_of t vs) (one_of u ws) = same_operand t u && same_list same_value vs ws
 same_condition (kind s x) (kind t y) = same_test s t && same_name x y
 same_condition (negation c) (negation d) = same_condition c d
+same_condition (gives b t s f args) (gives c u r g others) =
+    eq_Bool b c && (same_operand t u && (same_sign s r
+    && (same_function f g && same_list same_operand args others)))
 same_condition c d = false
 
 -- the terms are the same

@@ -6,7 +6,9 @@ ghost use Rattle.struql_ast.specs.Reading.{operand_of, step_of, condition_of, te
 ghost use Rattle.query_parts.specs.Same.{same_list, same_regex, same_op, same_test, op_number, test_number};
 ghost use Rattle.query_parts.specs.Same.{same_operand, same_step, same_condition, same_term};
 
-use query_spec::{Op, Test};
+use function_names::name;
+use function_spec::Function;
+use query_spec::{CallSign, Op, Test};
 use rpe::Rpe;
 use sd_value::{Str, Value};
 use struql_ast::{Condition, Operand, PathStep, SkolemTerm};
@@ -89,6 +91,7 @@ fn number_of_op(op: Op) -> u8
         Op::Texts(TextTest::Starts) => 6,
         Op::Texts(TextTest::Ends) => 7,
         Op::Texts(TextTest::Has) => 8,
+        Op::Texts(TextTest::Matches) => 9,
     }
 }
 
@@ -189,6 +192,49 @@ fn is_kind(test: Test, variable: &Str, other: &Condition) -> bool
     }
 }
 
+/// Whether two functions are the same.
+pub fn same_functions(one: Function, other: Function) -> bool
+    ensures { result ≡ same_function one other }
+{
+    name(one) == name(other)
+}
+
+/// Whether two signs of calls are the same.
+pub fn same_signs(one: CallSign, other: CallSign) -> bool
+    ensures { result ≡ same_sign one other }
+{
+    matches!(one, CallSign::Equals) == matches!(other, CallSign::Equals)
+}
+
+fn is_call(
+    computes: bool,
+    left: &Operand,
+    sign: CallSign,
+    function: Function,
+    args: &[Operand],
+    other: &Condition,
+) -> bool
+    ensures { result ≡ same_condition (gives computes (operand_of left.now) sign function
+        (map operand_of args.now)) (condition_of other.now) }
+{
+    match other {
+        Condition::Gives {
+            computes: by,
+            left: v,
+            sign: s,
+            function: f,
+            args: others,
+            ..
+        } => {
+            computes == *by
+                && (same_operands(left, v)
+                    && (same_signs(sign, *s)
+                        && (same_functions(function, *f) && same_args(args, others.items()))))
+        }
+        _ => false,
+    }
+}
+
 /// Whether two conditions are the same.
 pub fn same_conditions(one: &Condition, other: &Condition) -> bool
     ensures { result ≡ same_condition (condition_of one.now) (condition_of other.now) }
@@ -216,7 +262,31 @@ pub fn same_conditions(one: &Condition, other: &Condition) -> bool
             Condition::Not(d, _) => same_conditions(c, d),
             _ => false,
         },
+        Condition::Gives {
+            computes,
+            left,
+            sign,
+            function,
+            args,
+            ..
+        } => is_call(*computes, left, *sign, *function, args.items(), other),
     }
+}
+
+/// Whether two lists of conditions are the same.
+pub fn same_lists(some: &[Condition], others: &[Condition]) -> bool
+    ensures { result
+        ≡ same_list same_condition (map condition_of some.now) (map condition_of others.now) }
+{
+    if some.len() != others.len() {
+        return false;
+    }
+    for (place, condition) in some.iter().enumerate() {
+        if !same_conditions(condition, &others[place]) {
+            return false;
+        }
+    }
+    true
 }
 
 fn same_args(args: &[Operand], others: &[Operand]) -> bool

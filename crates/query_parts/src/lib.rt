@@ -7,21 +7,28 @@ ghost use Rattle.query_spec.specs.Query.{member, path, compare, one_of, kind, ne
 ghost use Rattle.rpe.specs.Reading.{regex_of};
 ghost use Rattle.struql_ast.specs.Reading.{operand_of, step_of, condition_of, term_of, aggregate_of, target_of, label_of, link_of, collect_of};
 
-use query_spec::{Op, Test};
+use function_spec::Function;
+use query_spec::{CallSign, Op, Test};
 use rpe::Rpe;
 use sd_lex::Span;
 use sd_value::{NoMemory, Str, Value, copied_list};
 use std::alloc::Global;
 use struql_ast::{
-    Aggregate, Collect, Condition, Constants, Link, LinkLabel, Operand, PathStep, SkolemTerm,
-    Target,
+    Aggregate, Arguments, Collect, Condition, Constants, Link, LinkLabel, NoneOf, Operand,
+    PathStep, SkolemTerm, Target,
 };
 
 mod equality;
+mod mentioned;
+mod variables;
 
 pub use equality::{
-    same_conditions, same_operands, same_ops, same_rpe, same_steps, same_terms, same_tests,
+    same_conditions, same_functions, same_lists, same_operands, same_ops, same_rpe, same_signs,
+    same_steps, same_terms, same_tests,
 };
+use mentioned::under;
+pub use mentioned::{is_mentioned, mentions};
+pub use variables::{copied_variable, copied_variables, none_chain, own_variables, variables_of};
 
 /// An equal operand.
 pub fn copied_operand(alloc: Global, operand: &Operand) -> Result<Operand, NoMemory>
@@ -185,7 +192,32 @@ fn negated(alloc: Global, inner: Condition, span: Span) -> Result<Condition, NoM
     Ok(Condition::Not(Box::new(alloc, inner)?, span))
 }
 
-fn copied_condition(alloc: Global, original: &Condition) -> Result<Condition, NoMemory>
+fn call_condition(
+    alloc: Global,
+    computes: bool,
+    left: &Operand,
+    sign: CallSign,
+    function: Function,
+    function_span: Span,
+    args: &Arguments,
+    span: Span,
+) -> Result<Condition, NoMemory>
+    ensures { IfOk result (λ copy. condition_of copy
+        ≡ gives computes (operand_of left.now) sign function (map operand_of args.now)) }
+{
+    Ok(Condition::Gives {
+        computes,
+        left: copied_operand(alloc, left)?,
+        sign,
+        function,
+        function_span,
+        args: Arguments::new(copied_operands(alloc, args.items())?),
+        span,
+    })
+}
+
+/// An equal condition.
+pub fn copied_condition(alloc: Global, original: &Condition) -> Result<Condition, NoMemory>
     ensures { IfOk result (λ copy. condition_of copy ≡ condition_of original.now) }
 {
     match original {
@@ -219,7 +251,86 @@ fn copied_condition(alloc: Global, original: &Condition) -> Result<Condition, No
             span,
         } => kind_condition(alloc, *test, variable, *variable_span, *span),
         Condition::Not(inner, span) => negated(alloc, copied_condition(alloc, inner)?, *span),
+        Condition::Gives {
+            computes,
+            left,
+            sign,
+            function,
+            function_span,
+            args,
+            span,
+        } => call_condition(
+            alloc,
+            *computes,
+            left,
+            *sign,
+            *function,
+            *function_span,
+            args,
+            *span,
+        ),
     }
+}
+
+/// Adds copies of these conditions, which are in a block: those of the blocks round it are `outer`.
+pub fn push_conditions_under(
+    alloc: Global,
+    found: &mut Vec<Condition>,
+    outer: &[Condition],
+    conditions: &[Condition],
+) -> Result<(), NoMemory>
+    ensures { IfOk result (λ _. map condition_of found.new.items
+        ≡ map condition_of found.old.items
+        ++ conditions_under (map condition_of outer.now) (map condition_of conditions.now)) }
+{
+    for item in conditions {
+        let copy = copied_condition(alloc, item)?;
+        found.push(under(outer, conditions, copy))?;
+    }
+    Ok(())
+}
+
+/// A NONE of equal conditions.
+pub fn copied_none(alloc: Global, none: &NoneOf) -> Result<NoneOf, NoMemory>
+    ensures { IfOk result (λ copy. none_of copy ≡ none_of none.now) }
+{
+    let mut conditions = Vec::new(alloc);
+    push_conditions(alloc, &mut conditions, &none.conditions)?;
+    Ok(NoneOf {
+        conditions,
+        span: none.span,
+    })
+}
+
+/// Adds copies of these NONEs of a block.
+pub fn push_nones_within(
+    alloc: Global,
+    found: &mut Vec<NoneOf>,
+    nones: &[NoneOf],
+) -> Result<(), NoMemory>
+    ensures { IfOk result (λ _. map none_of found.new.items
+        ≡ map none_of found.old.items ++ map within_none (map none_of nones.now)) }
+{
+    for none in nones {
+        let mut conditions = Vec::new(alloc);
+        push_conditions_under(alloc, &mut conditions, &[], &none.conditions)?;
+        found.push(NoneOf {
+            conditions,
+            span: none.span,
+        })?;
+    }
+    Ok(())
+}
+
+/// Adds copies of these NONEs.
+pub fn push_nones(alloc: Global, found: &mut Vec<NoneOf>, nones: &[NoneOf]) -> Result<(), NoMemory>
+    ensures { IfOk result (λ _. map none_of found.new.items
+        ≡ map none_of found.old.items ++ map none_of nones.now) }
+{
+    for none in nones {
+        found.push(copied_none(alloc, none)?)?;
+    }
+    Ok(())
 }
 
 /// Adds copies of these conditions.

@@ -2,7 +2,7 @@
 use Rattle.std.proofs.Common.{◌≡◌, ◌⊎◌, ◌<◌, ◌≤◌, inl, inr, ℕ, refl, sym, ap, ◌∙◌, arith}
 use Rattle.std.specs.Prelude.{nat_eq, if◌then◌else◌}
 use Rattle.struql_check.specs.declared.faults.Check.{Check}
-use Rattle.struql_check.specs.declared.faults.Check.TheVariants.{TooManyPositions, Unbound, NeverCreated, Arity, LinkFromData, ArcAsNode, NotLabel, Reserved, TooManyVariables}
+use Rattle.struql_check.specs.declared.faults.Check.TheVariants.{TooManyPositions, Unbound, NeverCreated, Arity, LinkFromData, ArcAsNode, NotLabel, Reserved, TooManyVariables, LocalToNone, NotYetKnown, BadPattern}
 use Rattle.struql_check.specs.Faults.{number, IsLeastFault}
 
 -- the check of a number
@@ -15,7 +15,10 @@ check_of n =
     if nat_eq n 64 then LinkFromData else
     if nat_eq n 65 then ArcAsNode else
     if nat_eq n 66 then NotLabel else
-    if nat_eq n 67 then Reserved else TooManyVariables
+    if nat_eq n 67 then Reserved else
+    if nat_eq n 68 then TooManyVariables else
+    if nat_eq n 151 then LocalToNone else
+    if nat_eq n 152 then NotYetKnown else BadPattern
 
 again : (c : Check) → check_of (number c) ≡ c
 unfolding check_of
@@ -28,6 +31,9 @@ again ArcAsNode = refl
 again NotLabel = refl
 again Reserved = refl
 again TooManyVariables = refl
+again LocalToNone = refl
+again NotYetKnown = refl
+again BadPattern = refl
 
 same_check : (c d : Check) → number c ≡ number d → c ≡ d
 same_check c d e = sym (again c) ∙ ap check_of e ∙ again d

@@ -11,14 +11,14 @@ use Rattle.query_blocks.specs.Blocks.{IsMade}
 
 -- what is checked of a block, with the conditions of all blocks round it
 pub record IsSafe (version : ℕ) (b : Body) : Type 0 where
-  pub well_made : IsWellMade (chain_of version b.conditions)
+  pub well_made : IsWellMade (chain_of version b.conditions b.nones)
   pub terms : (t : SkolemTerm) → Contains (terms_of b) t
-      → All (IsDeclared (variables_of b.conditions)) t.args
+      → All (IsDeclared (variables_of b.conditions b.nones)) t.args
   pub sources : (k : Link) → Contains b.links k → IsMade k.source
 
 -- each chain has the variables of its conditions
 abbrev pub HaveChains : ℕ → List QueryBlock → Type 0
-HaveChains version blocks = All (λ s. s.chain ≡ chain_of version s.chain.conditions) blocks
+HaveChains version blocks = All (λ s. s.chain ≡ chain_of version s.chain.conditions s.chain.nones) blocks
 
 -- what a block says, apart from the blocks in it
 abbrev pub own_body : Block → Body

@@ -20,7 +20,6 @@ use struql_check::Checked;
 
 mod blocks;
 mod scoped_query;
-mod variables;
 
 pub use scoped_query::ScopedQuery;
 
@@ -40,8 +39,16 @@ pub fn scoped_blocks(alloc: Global, checked: &Checked) -> Result<Vec<QueryBlock>
 {
     let query = checked.query();
     let outer = Vec::new(alloc);
+    let nones = Vec::new(alloc);
     let mut found = Vec::new(alloc);
-    push_blocks(alloc, query.version, &query.blocks, &mut found, &outer)?;
+    push_blocks(
+        alloc,
+        query.version,
+        &query.blocks,
+        &mut found,
+        &outer,
+        &nones,
+    )?;
     Ok(found)
 }
 

@@ -1,7 +1,7 @@
 -- How a ghost value keeps a chain: needed where a `Chain` is what contracts see of a struct.
 use Rattle.std.specs.Prelude.{◌≡◌, ◌⊎◌, ℕ, List}
 use Rattle.std.proofs.Common.{arith, ap, refl, inl, inr}
-use Rattle.std.specs.Coded.{Coded, code_by, coded×, coded⊎, coded_list, coded_ℕ}
+use Rattle.std.specs.Coded.{Coded, code_by, coded×, coded⊎, coded_list, coded_ℕ, coded_bool}
 use base.Stored.{Gv, gnil, gcons}
 use Rattle.sd_value.specs.Codes.{node, kind_of}
 use Rattle.sd_value.specs.declared.Value.{Value}
@@ -10,10 +10,12 @@ use Rattle.rpe.specs.Regex.{regex_code}
 use Rattle.graph_spec.specs.DataGraph.{Name}
 use Rattle.query_spec.specs.contracts.Op as op
 use Rattle.query_spec.specs.contracts.Test as test
+use Rattle.query_spec.specs.contracts.CallSign as call_sign
+use Rattle.function_spec.specs.contracts.Function as function
 use Rattle.query_spec.specs.contracts.Variable as variable_row
 use Rattle.query_spec.specs.declared.Variable.{Variable}
 use Rattle.query_spec.specs.Query.{Operand, variable, constant, PathStep, arc_variable, expression}
-use Rattle.query_spec.specs.Query.{Condition, member, path, compare, one_of, kind, negation, Chain}
+use Rattle.query_spec.specs.Query.{Condition, member, path, compare, one_of, kind, negation, gives, Chain}
 use Rattle.query_spec.specs.Query.{Aggregate, count_of, min_of, max_of, sum_of}
 use Rattle.query_spec.specs.Query.{SkolemTerm, Target, plain, made, summed, LinkLabel, quoted}
 use Rattle.query_spec.specs.Query.{label_variable, Link, Collect, Body, Blocks, no_blocks, block}
@@ -38,6 +40,10 @@ operand-inj (constant v) (constant w) e = ap constant (coded_value.inj v w cc)
 operand-inj t u e =
     let kinds : kind_of (operand t) ≡ kind_of (operand u) = ap kind_of e in absurd (omega arith)
 
+-- operands as ghost values
+abbrev pub operand_code : Coded Operand
+operand_code = record { code = operand; inj = operand-inj }
+
 abbrev step : PathStep → Gv
 step (arc_variable x) = node 0 (coded_name.code x)
 step (expression r) = node 1 (regex_code.code r)
@@ -57,6 +63,9 @@ condition (compare t o u) =
 condition (one_of t vs) = node 3 (gcons (operand t) ((coded_list coded_value).code vs))
 condition (kind k x) = node 4 (gcons ((test.the_row).coded.code k) (coded_name.code x))
 condition (negation c) = node 5 (condition c)
+condition (gives computes t sign f ts) =
+    node 6 (gcons (coded_bool.code computes) (gcons (operand t) (gcons (call_sign.the_row.coded.code sign)
+    (gcons (function.the_row.coded.code f) ((coded_list operand_code).code ts)))))
 
 -- different conditions are kept differently
 pub condition-inj : (x y : Condition) → condition x ≡ condition y → x ≡ y
@@ -74,6 +83,13 @@ condition-inj (one_of t vs) (one_of u ws) e =
 condition-inj (kind k x) (kind l y) e =
     let p = (test.the_row).coded.inj k l cc in let q = coded_name.inj x y cc in cc
 condition-inj (negation c) (negation d) e = ap negation (condition-inj c d cc)
+condition-inj (gives b t s f ts) (gives c u r g us) e =
+    let o = coded_bool.inj b c cc in
+    let p = operand-inj t u cc in
+    let q = call_sign.the_row.coded.inj s r cc in
+    let m = function.the_row.coded.inj f g cc in
+    let n = (coded_list operand_code).inj ts us cc in
+    cc
 condition-inj x y e =
     let kinds : kind_of (condition x) ≡ kind_of (condition y) = ap kind_of e in absurd (omega arith)
 
@@ -84,16 +100,14 @@ condition_code = record { code = condition; inj = condition-inj }
 -- chains as ghost values
 abbrev pub chain_code : Coded Chain
 chain_code =
-    code_by (ℕ × (List Variable × List Condition))
-    (coded× coded_ℕ (coded× (coded_list (variable_row.the_row).coded) (coded_list condition_code)))
-    (λ c. (c.version, (c.variables, c.conditions)))
-    (λ p. record { version = p.0; variables = p.1.0; conditions = p.1.1 }) (λ _. refl)
+    code_by (ℕ × (List Variable × (List Condition × List (List Condition))))
+    (coded× coded_ℕ (coded× (coded_list (variable_row.the_row).coded)
+    (coded× (coded_list condition_code) (coded_list (coded_list condition_code)))))
+    (λ c. (c.version, (c.variables, (c.conditions, c.nones))))
+    (λ p. record { version = p.0; variables = p.1.0; conditions = p.1.1.0; nones = p.1.1.1 })
+    (λ _. refl)
 
 -- ---- and a query
-
--- operands as ghost values
-abbrev pub operand_code : Coded Operand
-operand_code = record { code = operand; inj = operand-inj }
 
 abbrev aggregate : Aggregate → Gv
 aggregate (count_of v) = node 0 (coded_name.code v)
@@ -183,11 +197,17 @@ collect_code =
 -- bodies of blocks as ghost values
 abbrev pub body_code : Coded Body
 body_code =
-    code_by (List Condition × (List SkolemTerm × (List Link × List Collect)))
-    (coded× (coded_list condition_code)
-    (coded× (coded_list term_code) (coded× (coded_list link_code) (coded_list collect_code))))
-    (λ b. (b.conditions, (b.creates, (b.links, b.collects))))
-    (λ p. record { conditions = p.0; creates = p.1.0; links = p.1.1.0; collects = p.1.1.1 })
+    code_by (List Condition × (List (List Condition) × (List SkolemTerm × (List Link × List Collect))))
+    (coded× (coded_list condition_code) (coded× (coded_list (coded_list condition_code))
+    (coded× (coded_list term_code) (coded× (coded_list link_code) (coded_list collect_code)))))
+    (λ b. (b.conditions, (b.nones, (b.creates, (b.links, b.collects)))))
+    (λ p. record {
+      conditions = p.0;
+      nones = p.1.0;
+      creates = p.1.1.0;
+      links = p.1.1.1.0;
+      collects = p.1.1.1.1;
+    })
     (λ _. refl)
 
 abbrev blocks : Blocks → Gv

@@ -1,5 +1,6 @@
 -- When a condition holds in a data graph, under an assignment of values to variables.
-use Rattle.std.specs.Prelude.{◌≡◌, ◌⊎◌, ℕ, ◌≤◌, ◌^◌, ◌-◌, ℤ, pos, negsuc, ◌≤ℤ◌, Contains}
+use Rattle.std.specs.Prelude.{◌≡◌, ◌⊎◌, ℕ, ◌≤◌, ◌^◌, ◌-◌, ℤ, pos, negsuc, ◌≤ℤ◌, Contains, List}
+use Rattle.std.specs.List.{AllZip}
 use Rattle.std.specs.Fmt.{signed_decimal}
 use Rattle.std.specs.Prelude.{Option, Some}
 use Rattle.std.specs.declared.cmp.Ordering.{Ordering}
@@ -10,6 +11,7 @@ use Rattle.sd_value.specs.declared.Value.{Value}
 use Rattle.sd_value.specs.declared.Value.TheVariants.{Data}
 use Rattle.sd_value.specs.Order.{bytes_cmp}
 use Rattle.value_texts.specs.Texts.{TextsHold}
+use Rattle.function_spec.specs.Functions.{Gives}
 use Rattle.rpe.specs.Regex.{Word}
 use Rattle.rpe.specs.Language.{InLanguage}
 use Rattle.graph_spec.specs.DataGraph.{DataGraph, Name, node, text, HasEdge, HasMember}
@@ -19,7 +21,7 @@ use Rattle.query_spec.specs.declared.Op.TheVariants.{Eq, Ne, Lt, Le, Gt, Ge, Tex
 use Rattle.query_spec.specs.declared.Test.{Test}
 use Rattle.query_spec.specs.declared.Test.TheVariants.{IsInt, IsText, IsUrl, IsFile, IsNode}
 use Rattle.query_spec.specs.Query.{Operand, variable, constant, arc_variable, expression, Condition}
-use Rattle.query_spec.specs.Query.{member, path, compare, one_of, kind, negation}
+use Rattle.query_spec.specs.Query.{member, path, compare, one_of, kind, negation, gives}
 
 -- the value of a variable, if it has one
 abbrev pub Assignment : Type 0
@@ -74,6 +76,10 @@ HasKind IsUrl v = (s : Name) × (v ≡ Data (Url s))
 HasKind IsFile v = (s : Name) × (v ≡ Data (File s))
 HasKind IsNode v = (s : Name) × (v ≡ Data (Node s))
 
+-- the values of operands, one for each
+abbrev pub AreValues : Assignment → List Operand → List Value → Type 0
+AreValues s operands values = AllZip (λ t v. operand_value s t ≡ Some v) operands values
+
 -- the condition holds in the graph under the assignment
 abbrev pub Holds : DataGraph → ℕ → Condition → Assignment → Type 0
 -- x is a node that is a member of the collection
@@ -94,3 +100,7 @@ Holds G version (one_of t values) s =
     × (k : Value) × Contains values k × IsEqual version a k
 Holds G version (kind test x) s = (a : Value) × (s x ≡ Some a) × HasKind test a
 Holds G version (negation c) s = Holds G version c s → ⊥
+-- the value is one that the function gives of its arguments' values, and no twin serves
+Holds G version (gives computes t sign f operands) s =
+    (a : Value) × (operand_value s t ≡ Some a)
+    × (values : List Value) × AreValues s operands values × Gives f values a

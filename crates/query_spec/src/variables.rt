@@ -1,9 +1,9 @@
 //! Variables by their numbers.
 
 ghost use Rattle.std.specs.Prelude.{◌≡◌, ◌<◌, length, map, IfOk, Contains};
-ghost use Rattle.query_spec.specs.Rows.{IsNumberOf, arcs_of};
+ghost use Rattle.query_spec.specs.Rows.{IsNumberOf, sorts_of};
 
-use crate::Variable;
+use crate::{Sort, Variable};
 use sd_value::{NoMemory, Str};
 use std::alloc::Global;
 
@@ -21,13 +21,13 @@ pub fn index_of(variables: &[Variable], name: &Str) -> usize
     0
 }
 
-/// Which variables stand for labels.
-pub fn arcs_of_variables(alloc: Global, variables: &[Variable]) -> Result<Vec<bool>, NoMemory>
-    ensures { IfOk result (λ arcs. arcs.items ≡ arcs_of variables.now) }
+/// What each variable may be.
+pub fn sorts_of_variables(alloc: Global, variables: &[Variable]) -> Result<Vec<Sort>, NoMemory>
+    ensures { IfOk result (λ sorts. sorts.items ≡ sorts_of variables.now) }
 {
-    let mut arcs = Vec::new(alloc);
+    let mut sorts = Vec::new(alloc);
     for variable in variables {
-        arcs.push(variable.arc)?;
+        sorts.push(variable.sort)?;
     }
-    Ok(arcs)
+    Ok(sorts)
 }

@@ -16,6 +16,7 @@ use Rattle.refute_site.specs.declared.candidate.Candidate.{Candidate}
 abbrev pub in_copy : Candidate → Copy → Pattern
 in_copy c copy = record {
   conditions = c.chain.now.conditions;
+  nones = c.chain.now.nones;
   set = option_map set_of c.set;
   copy = copy;
   repeats = c.repeats;
@@ -38,7 +39,7 @@ candidate_graph c = graph_of (all_stated c c.source)
 
 -- the chain's variables are those of its conditions
 abbrev pub HasItsVariables : Candidate → Type 0
-HasItsVariables c = c.chain.now.variables ≡ variables_of c.chain.now.conditions
+HasItsVariables c = c.chain.now.variables ≡ variables_of c.chain.now.conditions c.chain.now.nones
 
 -- this is so of each of the candidates
 abbrev pub HaveTheirVariables : List Candidate → Type 0

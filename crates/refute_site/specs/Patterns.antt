@@ -22,6 +22,7 @@ copy_of (Second shared) = second_copy (map operand_of shared.now)
 abbrev pub pattern_of : Pattern → plain.Pattern
 pattern_of p = record {
   conditions = p.chain.now.conditions;
+  nones = p.chain.now.nones;
   set = option_map set_of p.set;
   copy = copy_of p.copy;
   repeats = p.repeats;
@@ -29,4 +30,4 @@ pattern_of p = record {
 
 -- the chain's variables are those of its conditions
 abbrev pub HasItsVariables : Pattern → Type 0
-HasItsVariables p = p.chain.now.variables ≡ variables_of p.chain.now.conditions
+HasItsVariables p = p.chain.now.variables ≡ variables_of p.chain.now.conditions p.chain.now.nones

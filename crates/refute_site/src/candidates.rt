@@ -41,7 +41,7 @@ fn push_ways<'a>(
           repeats = repeats;
         }))) }
     ensures variables { HaveTheirVariables found.old.items
-        → chain.now.variables ≡ variables_of chain.now.conditions
+        → chain.now.variables ≡ variables_of chain.now.conditions chain.now.nones
         → OnOk result (HaveTheirVariables found.new.items) }
 {
     found.push(Candidate {
@@ -107,7 +107,7 @@ fn push_link<'a>(
         ≡ map candidate_graph found.old.items
         ++ frozen_link twice label.now (placed chain.now.conditions link.now)) }
     ensures variables { HaveTheirVariables found.old.items
-        → chain.now.variables ≡ variables_of chain.now.conditions
+        → chain.now.variables ≡ variables_of chain.now.conditions chain.now.nones
         → OnOk result (HaveTheirVariables found.new.items) }
 {
     let set = set_label(label, &link.label);
@@ -132,7 +132,7 @@ fn push_carrier<'a, J: Judge>(
         ++ frozen_links (carries (J.tests judge.now) version function.now asked.now) twice label.now
         (placed chain.now.conditions link.now ∷ [])) }
     ensures variables { HaveTheirVariables found.old.items
-        → chain.now.variables ≡ variables_of chain.now.conditions
+        → chain.now.variables ≡ variables_of chain.now.conditions chain.now.nones
         → OnOk result (HaveTheirVariables found.new.items) }
 {
     if may_carry(judge, version, function, asked, chain, link) {
@@ -158,7 +158,7 @@ fn push_block<'a, J: Judge>(
         ++ frozen_links (carries (J.tests judge.now) version function.now asked.now) twice label.now
         (body_links (body_of block.now))) }
     ensures variables { HaveTheirVariables found.old.items
-        → block.now.chain.variables ≡ variables_of block.now.chain.conditions
+        → block.now.chain.variables ≡ variables_of block.now.chain.conditions block.now.chain.nones
         → OnOk result (HaveTheirVariables found.new.items) }
 {
     for link in &block.links {

@@ -7,13 +7,22 @@ ghost use Rattle.refute_site.specs.Adding.{AddsAll};
 ghost use Rattle.refute_site.specs.Patterns.{copy_of};
 
 use crate::freezing::Pattern;
+use crate::given::{frozen_value, is_computed};
 use crate::statements::{add_along, add_edge_by, add_member};
 use crate::words::add_word;
 use sd_graph::{GraphBuilder, GraphRefusal};
+use query_spec::Variable;
 use sd_value::Value;
 use skolem::{operand_value, value_of};
 use std::alloc::Global;
 use struql_ast::{Condition, Operand, PathStep};
+
+fn is_computed_end(variables: &[Variable], end: &Operand) -> bool {
+    match end {
+        Operand::Variable(name, _) => is_computed(variables, name),
+        Operand::Constant(_, _) => false,
+    }
+}
 
 // Adds the edges of a path.
 fn add_path(
@@ -32,6 +41,9 @@ fn add_path(
         builder.old builder.new result }
 {
     let variables = pattern.chain.variables();
+    if is_computed_end(variables, ends.0) || is_computed_end(variables, ends.1) {
+        return Ok(());
+    }
     let Some(from) = operand_value(variables, values, ends.0) else {
         return Ok(());
     };
@@ -69,7 +81,7 @@ fn add_condition(
             collection,
             variable,
             ..
-        } => match value_of(pattern.chain.variables(), values, variable) {
+        } => match frozen_value(pattern.chain.variables(), values, variable) {
             Some(value) => add_member(alloc, builder, collection, value),
             None => Ok(()),
         },

@@ -10,10 +10,30 @@ ghost use Rattle.counterexample_spec.specs.Values.{equal_to_constant, first_of_l
 ghost use Rattle.counterexample_spec.specs.Values.{fitting as fitted};
 ghost use Rattle.refute_site.specs.Rules.{given_by};
 
-use query_spec::{Op, Test, Variable};
+use query_spec::{Op, Sort, Test, Variable};
 use sd_value::{Datum, Str, Value};
 use skolem::value_of;
 use struql_ast::{Chain, Condition, Operand};
+
+// Whether calls give the variable its values, so that it has none that is frozen.
+pub(crate) fn is_computed(variables: &[Variable], name: &Str) -> bool {
+    variables
+        .iter()
+        .any(|variable| matches!(variable.sort, Sort::Computed) && *name == variable.name)
+}
+
+// The value of the variable, if it has one that is frozen.
+pub(crate) fn frozen_value<'a>(
+    variables: &[Variable],
+    known: &'a [Value],
+    name: &Str,
+) -> Option<&'a Value> {
+    if is_computed(variables, name) {
+        None
+    } else {
+        value_of(variables, known, name)
+    }
+}
 
 // The value of the variable that `x = y` or `y = x` names, if it has one already.
 fn earlier_in<'a>(
@@ -33,9 +53,9 @@ fn earlier_in<'a>(
         return None;
     };
     if y == name {
-        value_of(variables, known, z)
+        frozen_value(variables, known, z)
     } else if z == name {
-        value_of(variables, known, y)
+        frozen_value(variables, known, y)
     } else {
         None
     }
@@ -165,24 +185,24 @@ pub(crate) fn first_test(chain: &Chain, name: &Str) -> Option<Test>
 }
 
 /// Whether the variable may have the value: an arc variable's is a text.
-pub(crate) fn fits(arc: bool, value: &Value) -> bool
-    ensures { MatchBool result (fitted arc (Some value.now) ≡ Some value.now)
-        (fitted arc (Some value.now) ≡ None) }
+pub(crate) fn fits(sort: Sort, value: &Value) -> bool
+    ensures { MatchBool result (fitted sort (Some value.now) ≡ Some value.now)
+        (fitted sort (Some value.now) ≡ None) }
 {
     match value {
         Value::Data(Datum::Text(_)) => true,
-        _ => !arc,
+        _ => !matches!(sort, Sort::Arc),
     }
 }
 
 // The value, if there is one that the variable may have.
-fn fitting(arc: bool, value: Option<&Value>) -> Option<&Value>
-    ensures { option_copied result ≡ fitted arc (option_copied value.entry) }
+fn fitting(sort: Sort, value: Option<&Value>) -> Option<&Value>
+    ensures { option_copied result ≡ fitted sort (option_copied value.entry) }
 {
     let Some(found) = value else {
         return None;
     };
-    if fits(arc, found) { Some(found) } else { None }
+    if fits(sort, found) { Some(found) } else { None }
 }
 
 /// What the conditions give the variable by the first rule by which they give it one that it may have.
@@ -191,19 +211,19 @@ pub(crate) fn given_value<'a>(
     known: &'a [Value],
     variable: &Variable,
 ) -> Option<&'a Value>
-    ensures { option_copied result ≡ first_found (fitted variable.now.arc)
+    ensures { option_copied result ≡ first_found (fitted variable.now.sort)
         (first_found (equal_to_earlier (value_in chain.now.variables known.now) variable.now.name)
         chain.now.conditions
         ∷ first_found (equal_to_constant variable.now.name) chain.now.conditions
         ∷ first_found (first_of_list variable.now.name) chain.now.conditions ∷ []) }
 {
     let name = &variable.name;
-    let arc = variable.arc;
-    if let Some(value) = fitting(arc, first_by_rule(Rule::Earlier, chain, known, name)) {
+    let sort = variable.sort;
+    if let Some(value) = fitting(sort, first_by_rule(Rule::Earlier, chain, known, name)) {
         return Some(value);
     }
-    if let Some(value) = fitting(arc, first_by_rule(Rule::Constant, chain, known, name)) {
+    if let Some(value) = fitting(sort, first_by_rule(Rule::Constant, chain, known, name)) {
         return Some(value);
     }
-    fitting(arc, first_by_rule(Rule::List, chain, known, name))
+    fitting(sort, first_by_rule(Rule::List, chain, known, name))
 }

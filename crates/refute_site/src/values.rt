@@ -11,7 +11,7 @@ ghost use Rattle.refute_site.specs.Patterns.{set_of, copy_of, pattern_of, HasIts
 use crate::freezing::{ChainCopy, LabelSet, Pattern};
 use crate::given::{first_test, fits, given_value};
 use crate::names::{name_in, number_in};
-use query_spec::{Test, Variable};
+use query_spec::{Sort, Test, Variable};
 use sd_value::{Datum, NoMemory, Str, Value, copy};
 use std::alloc::Global;
 
@@ -84,7 +84,7 @@ fn tested(
         return Ok(None);
     };
     let value = value_of_kind(alloc, pattern.copy, &variable.name, number, test)?;
-    if fits(variable.arc, &value) {
+    if fits(variable.sort, &value) {
         Ok(Some(value))
     } else {
         Ok(None)
@@ -96,10 +96,9 @@ fn own(alloc: Global, pattern: &Pattern, variable: &Variable) -> Result<Value, N
     ensures { IfOk result (λ v. v ≡ owned (pattern_of pattern.now) variable.now) }
 {
     let name = name_in(alloc, pattern.copy, &variable.name)?;
-    if variable.arc {
-        Ok(Value::Data(Datum::Text(name)))
-    } else {
-        Ok(Value::Data(Datum::Node(name)))
+    match variable.sort {
+        Sort::Node => Ok(Value::Data(Datum::Node(name))),
+        Sort::Arc | Sort::Computed => Ok(Value::Data(Datum::Text(name))),
     }
 }
 

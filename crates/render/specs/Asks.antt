@@ -8,14 +8,15 @@ use Rattle.tmpl.specs.declared.SortKey.{SortKey}
 use Rattle.tmpl.specs.declared.Test.{Test}
 use Rattle.tmpl.specs.declared.Test.TheVariants.{Any, Compares, Counts, Same}
 use Rattle.tmpl.specs.declared.Mode.{Mode}
-use Rattle.tmpl.specs.declared.Mode.TheVariants.{Written, Embed, Link, Labelled}
+use Rattle.tmpl.specs.declared.Mode.TheVariants.{Written, Embed, Link, Labelled, Base}
 use Rattle.tmpl.specs.declared.WordRoot.{WordRoot}
 use Rattle.tmpl.specs.declared.WordRoot.TheVariants.{Collection}
 use Rattle.page_spec.specs.Site.{Site, Env, Starts, InRange}
 use Rattle.page_spec.specs.Pieces.{binding}
+use Rattle.page_spec.specs.declared.PageName.{PageName}
 use Rattle.page_spec.specs.Page.{Leads}
 use Rattle.page_spec.specs.Question.{Question, out, collected, template}
-use Rattle.demand_spec.specs.Reads.{Name, Word, Passes, Presents, BodyAsks}
+use Rattle.demand_spec.specs.Reads.{Name, Word, Passes, Presents, BodyAsks, IsDemanded, PresentsPage}
 
 -- the word, begun at a value with P, comes to u and has the label next
 abbrev pub WordAsks : Site → (Value → Type 0) → Word → Question → Type 0
@@ -39,10 +40,11 @@ abbrev pub ArrangedAsks : Site → Env → Expr → Order → Question → Type 
 ArrangedAsks s e x o q = RangeAsks s e x q ⊎ ((v : Value) × InRange s e x v × KeysAsks s o.keys v q)
 
 abbrev pub ModeAsks : Site → Mode → Value → Question → Type 0
-ModeAsks s (Written w) v q = ⊥
+ModeAsks s (Written w e) v q = ⊥
 ModeAsks s Embed v q = q ≡ template v
-ModeAsks s (Link word) v q = KeyAsks s word v q
-ModeAsks s (Labelled label) v q = ⊥
+ModeAsks s (Link word e) v q = KeyAsks s word v q
+ModeAsks s (Labelled label e) v q = ⊥
+ModeAsks s Base v q = ⊥
 
 abbrev pub TestAsks : Site → Env → Expr → Test → Question → Type 0
 TestAsks s e x Any q = RangeAsks s e x q
@@ -74,3 +76,9 @@ FrameAsks s f n q = (q ≡ template n) ⊎ ValueAsks s f n q
 -- the template of a value that embeds lead to from n asks the question
 abbrev pub LedAsks : Site → TemplateFile → Value → Question → Type 0
 LedAsks s f n q = (m : Value) × Leads s f n m × ValueAsks s f m q
+
+-- what a page asks once it has begun: its template, or that of a value that embeds lead to from it, asks the question
+abbrev pub PageLedAsks : Site → TemplateFile → PageName → Question → Type 0
+PageLedAsks s f p q =
+    ((n : Value) × IsDemanded s f p n × ValueAsks s f n q)
+    ⊎ ((b : Body) × PresentsPage s f p b × BodyAsks s b (Page p.term) q)

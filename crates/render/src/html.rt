@@ -1,10 +1,15 @@
 // Values in HTML: escaped, and as links.
 ghost use Rattle.std.specs.Prelude.{◌≡◌, [], ◌∷◌, ◌++◌, IfOk, MatchOption, None, OnOk, Some, if◌then◌else◌};
 ghost use Rattle.page_spec.specs.Show as spec;
+ghost use Rattle.page_spec.specs.Addresses.{show, target, link};
+ghost use Rattle.tmpl.specs.Body.{TemplateFile};
+ghost use Rattle.tmpl.specs.Reading.{file_of};
+ghost use Rattle.tmpl.specs.declared.endings.Ending.{Ending as AnyEnding};
 
 use address::{is_active, push_shown};
 use sd_value::{Datum, NoMemory, Value};
 use std::alloc::Global;
+use tmpl::{Ending, Templates};
 
 /// The text with `&`, `<`, `>`, `"` and `'` written as HTML's entities.
 pub fn push_escaped(out: &mut Vec<u8>, text: &[u8]) -> Result<(), NoMemory>
@@ -38,19 +43,26 @@ pub fn entity_of(byte: u8) -> Option<&'static [u8]>
 }
 
 /// The value, shown and escaped.
-pub fn push_escaped_value(alloc: Global, out: &mut Vec<u8>, value: &Value) -> Result<(), NoMemory>
-    ensures { OnOk result (out.new.items ≡ out.old.items ++ spec.escaped (spec.show value.now)) }
+pub fn push_escaped_value(
+    alloc: Global,
+    templates: &Templates,
+    ending: Ending,
+    out: &mut Vec<u8>,
+    value: &Value,
+) -> Result<(), NoMemory>
+    ensures { OnOk result (out.new.items ≡ out.old.items
+        ++ spec.escaped (show (file_of templates.now) ending value.now)) }
 {
     // Most values have no more bytes.
     let mut text = Vec::with_capacity(alloc, 64)?;
-    push_shown(alloc, value, &mut text)?;
+    push_shown(alloc, templates, ending, value, &mut text)?;
     push_escaped(out, text.as_slice())
 }
 
 // Whether a link can lead to the value: it is a page, or a Url or a File that isn't active.
 fn is_target(alloc: Global, value: &Value) -> Result<bool, NoMemory>
-    ensures { IfOk result
-        (λ leads. spec.target value.now ≡ (if leads then Some (spec.show value.now) else None)) }
+    ensures { IfOk result (λ leads. (f : TemplateFile) (ending : AnyEnding)
+        → target f ending value.now ≡ (if leads then Some (show f ending value.now) else None)) }
 {
     match value {
         Value::Page(_) => Ok(true),
@@ -64,16 +76,18 @@ fn is_target(alloc: Global, value: &Value) -> Result<bool, NoMemory>
 /// A link to the value with the label, or the label alone if nothing can lead there.
 pub fn push_anchor(
     alloc: Global,
+    templates: &Templates,
+    ending: Ending,
     out: &mut Vec<u8>,
     value: &Value,
     label: &[u8],
 ) -> Result<(), NoMemory>
-    ensures { OnOk result
-        (out.new.items ≡ out.old.items ++ spec.anchor (spec.target value.now) label.now) }
+    ensures { OnOk result (out.new.items ≡ out.old.items
+        ++ spec.anchor (target (file_of templates.now) ending value.now) label.now) }
 {
     if is_target(alloc, value)? {
         push(out, b"<a href=\"")?;
-        push_escaped_value(alloc, out, value)?;
+        push_escaped_value(alloc, templates, ending, out, value)?;
         push(out, b"\">")?;
         push_escaped(out, label)?;
         push(out, b"</a>")
@@ -85,16 +99,19 @@ pub fn push_anchor(
 /// The same with another value as the label.
 pub fn push_link(
     alloc: Global,
+    templates: &Templates,
+    ending: Ending,
     out: &mut Vec<u8>,
     value: &Value,
     label: &Value,
 ) -> Result<(), NoMemory>
-    ensures { OnOk result (out.new.items ≡ out.old.items ++ spec.link value.now label.now) }
+    ensures { OnOk result (out.new.items ≡ out.old.items
+        ++ link (file_of templates.now) ending value.now label.now) }
 {
     // Most values have no more bytes.
     let mut text = Vec::with_capacity(alloc, 64)?;
-    push_shown(alloc, label, &mut text)?;
-    push_anchor(alloc, out, value, text.as_slice())
+    push_shown(alloc, templates, ending, label, &mut text)?;
+    push_anchor(alloc, templates, ending, out, value, text.as_slice())
 }
 
 /// The bytes.

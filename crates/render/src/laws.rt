@@ -1,6 +1,6 @@
 // Laws of pages, each the contract of a function that does nothing.
 ghost use Rattle.std.specs.Prelude.{◌≡◌, ℕ, List};
-ghost use Rattle.sd_value.specs.declared.Term.{Term};
+ghost use Rattle.page_spec.specs.declared.PageName.{PageName};
 ghost use Rattle.page_spec.specs.declared.Outcome.{Outcome};
 ghost use Rattle.page_spec.specs.Page.{IsOutcome};
 ghost use Rattle.page_spec.specs.Written.{written};
@@ -9,11 +9,11 @@ ghost use Rattle.render.specs.Safe.{IsSafe};
 
 use site_view::SiteView;
 
-/// A term has one outcome.
+/// A page has one outcome.
 pub fn one_outcome<V: SiteView>(_view: &V)
-    ensures { (t : Term) (o p : Outcome)
-        → IsOutcome (V.site (V.fixed _view.now)) (V.templates (V.fixed _view.now)) t o
-        → IsOutcome (V.site (V.fixed _view.now)) (V.templates (V.fixed _view.now)) t p → o ≡ p }
+    ensures { (page : PageName) (o p : Outcome)
+        → IsOutcome (V.site (V.fixed _view.now)) (V.templates (V.fixed _view.now)) page o
+        → IsOutcome (V.site (V.fixed _view.now)) (V.templates (V.fixed _view.now)) page p → o ≡ p }
 {}
 
 /// A text that is written opens no tag, but with RAW, and with LINES its breaks alone.

@@ -1,28 +1,30 @@
-// The page of a term.
+// The page of a name.
 ghost use Rattle.std.specs.Prelude.{◌≡◌, ◌↔◌, ◌≤◌, ◌<◌, ◌++◌, ◌+◌, ℕ, Bool, true, false, List, [], All, Contains};
-ghost use Rattle.std.specs.Prelude.{IfOk, IsTrue, MatchOption, Some, None, length, if◌then◌else◌, is_some, ◌^◌};
+ghost use Rattle.std.specs.Prelude.{IfOk, IsTrue, MatchOption, Some, None, get_or, length, if◌then◌else◌, is_some, ◌^◌};
 ghost use Rattle.std.specs.BTreeMap.{get, btree_map_len};
 ghost use Rattle.sd_value.specs.declared.Value.{Value as AnyValue};
 ghost use Rattle.sd_value.specs.Order.{value_cmp};
 ghost use Rattle.tmpl.specs.Reading.{file_of};
-ghost use Rattle.page_spec.specs.Pieces.{HasTemplate, Pieces, items_of};
+ghost use Rattle.page_spec.specs.Pieces.{HasTemplate, HasTemplateAs, Pieces, items_of};
+ghost use Rattle.tmpl.specs.Body.{done};
 ghost use Rattle.page_spec.specs.Page.{HasText, IsOutcome};
-ghost use Rattle.demand_spec.specs.Reads.{KeepsOnly, MayAsk};
+ghost use Rattle.demand_spec.specs.Reads.{KeepsOnly, MayAsk, BodyAsks};
 ghost use Rattle.page_spec.specs.declared.Outcome.TheVariants.{TooLong};
 ghost use Rattle.page_spec.specs.declared.TheConstants as limits;
 ghost use Rattle.page_text.specs.Texts.{IsDraft, AreTexts, IsNumbered, Keeps};
-ghost use Rattle.render.specs.Asks.{FrameAsks, LedAsks};
-ghost use Rattle.render.specs.Frames.{IsBegun, IsFrame, AreKnown, Marks, IsNext, IsTaken, IsFinal, IsText};
+ghost use Rattle.render.specs.Asks.{FrameAsks, PageLedAsks};
+ghost use Rattle.render.specs.Frames.{IsBegun, IsBegunBy, IsPageBegun, AreFirstKnown, IsFrame, AreKnown, Marks, IsNext};
+ghost use Rattle.render.specs.Frames.{IsTaken, IsPageFinal, IsText};
 
 use crate::expansion::Expansion;
 use crate::pieces::expand;
-use page_spec::{Outcome, PAGE_LIMIT, Piece};
+use page_spec::{Outcome, PAGE_LIMIT, PageName, Piece};
 use page_text::{Draft, Numbered, keep, written};
-use sd_value::{NoMemory, Str, Term, Value, copy};
+use sd_value::{NoMemory, Str, Value, copy};
 use site_view::SiteView;
 use std::alloc::Global;
 use std::collections::BTreeMap;
-use tmpl::Templates;
+use tmpl::{Ending, Templates};
 
 /// A value that was met: its text is being put together, or is known.
 #[derive(Drop)]
@@ -173,17 +175,73 @@ fn frame_of<V: SiteView>(
     match view.template_of(alloc, &value)? {
         None => Ok(None),
         Some(number) => {
-            let parts = templates.template(number).parts.as_slice();
-            let mut body = Expansion::beside(alloc, beside);
-            expand(alloc, view, &value, &[], parts, &mut body)?;
-            let Expansion { mut pieces, size } = body;
-            pieces.reverse();
-            Ok(Some(Frame {
-                value,
-                left: pieces,
-                draft: Draft::new(alloc),
-                least: size,
-            }))
+            let frame = frame_by(alloc, view, templates, number, value, beside)?;
+            Ok(Some(frame))
+        }
+    }
+}
+
+/// The value with its pieces by the template of this number and no text yet. The page has this many bytes beside it at least.
+fn frame_by<V: SiteView>(
+    alloc: Global,
+    view: &mut V,
+    templates: &Templates,
+    number: u32,
+    value: Value,
+    beside: usize,
+) -> Result<Frame, NoMemory>
+    requires file { file_of templates.now ≡ V.templates (V.fixed view.old) }
+    requires number { number < length (file_of templates.now).bodies }
+    requires own { V.Own view.old }
+    ensures own { V.Own view.new }
+    ensures fixed { V.fixed view.new ≡ V.fixed view.old }
+    ensures kept { KeepsOnly (BodyAsks (V.site (V.fixed view.old))
+        (get_or (file_of templates.now).bodies number done) value)
+        (V.kept view.old) (V.kept view.new) }
+    ensures answer { IfOk result (λ r. IsBegunBy (V.site (V.fixed view.old))
+        (V.templates (V.fixed view.old)) number beside value r) }
+{
+    let parts = templates.template(number).parts.as_slice();
+    let mut body = Expansion::beside(alloc, beside);
+    expand(alloc, view, templates, &value, &[], parts, &mut body)?;
+    let Expansion { mut pieces, size } = body;
+    pieces.reverse();
+    Ok(Frame {
+        value,
+        left: pieces,
+        draft: Draft::new(alloc),
+        least: size,
+    })
+}
+
+/// The page with its pieces and no text yet, where a template makes it.
+fn page_frame<V: SiteView>(
+    alloc: Global,
+    view: &mut V,
+    templates: &Templates,
+    page: &PageName,
+) -> Result<Option<Frame>, NoMemory>
+    requires file { file_of templates.now ≡ V.templates (V.fixed view.old) }
+    requires own { V.Own view.old }
+    ensures own { V.Own view.new }
+    ensures fixed { V.fixed view.new ≡ V.fixed view.old }
+    ensures kept { KeepsOnly
+        (MayAsk (V.site (V.fixed view.old)) (V.templates (V.fixed view.old)) page.now)
+        (V.kept view.old) (V.kept view.new) }
+    ensures answer { IfOk result (λ r. MatchOption r
+        ((k : ℕ) → HasTemplateAs (V.site (V.fixed view.old)) (V.templates (V.fixed view.old))
+        page.now.ending page.now.term k → ⊥)
+        (λ r. IsPageBegun (V.site (V.fixed view.old)) (V.templates (V.fixed view.old)) page.now r)) }
+{
+    let value = Value::Page(page.term.copy(alloc)?);
+    if page.ending == Ending::Html {
+        return frame_of(alloc, view, templates, value, 0);
+    }
+    match templates.presented(&page.term.function, page.ending) {
+        None => Ok(None),
+        Some(number) => {
+            let frame = frame_by(alloc, view, templates, number, value, 0)?;
+            Ok(Some(frame))
         }
     }
 }
@@ -225,28 +283,43 @@ fn outcome_of(
     Ok(Outcome::Page(Str::of(alloc, bytes)?))
 }
 
-/// The outcome of the frame's value. Once the page is longer than a page may be, whatever its values' texts are, no more
-/// bytes are kept of them.
+/// The values that are met before what a page embeds: that of a page without another ending, which its own template presents.
+fn first_known(
+    alloc: Global,
+    ending: Ending,
+    value: &Value,
+) -> Result<BTreeMap<Value, Known>, NoMemory>
+    ensures { IfOk result (λ known. AreFirstKnown ending value.now known) }
+{
+    let mut known = BTreeMap::new(alloc);
+    if ending == Ending::Html {
+        mark(&mut known, copy(alloc, value)?, Known::Open)?;
+    }
+    Ok(known)
+}
+
+/// The outcome of the frame's page, which ends so. Once it is longer than a page may be, whatever its values' texts are, no
+/// more bytes are kept of them.
 fn run<V: SiteView>(
     alloc: Global,
     view: &mut V,
     templates: &Templates,
+    page: &PageName,
     frame: Frame,
 ) -> Result<Outcome, NoMemory>
     requires file { file_of templates.now ≡ V.templates (V.fixed view.old) }
-    requires frame { IsBegun (V.site (V.fixed view.old))
-        (V.templates (V.fixed view.old)) 0 frame.value frame }
+    requires frame { IsPageBegun (V.site (V.fixed view.old))
+        (V.templates (V.fixed view.old)) page.now frame }
     requires own { V.Own view.old }
     ensures own { V.Own view.new }
     ensures fixed { V.fixed view.new ≡ V.fixed view.old }
     ensures kept { KeepsOnly
-        (LedAsks (V.site (V.fixed view.old)) (V.templates (V.fixed view.old)) frame.value)
+        (PageLedAsks (V.site (V.fixed view.old)) (V.templates (V.fixed view.old)) page.now)
         (V.kept view.old) (V.kept view.new) }
-    ensures answer { IfOk result
-        (λ o. IsFinal (V.site (V.fixed view.old)) (V.templates (V.fixed view.old)) frame.value o) }
+    ensures answer { IfOk result (λ o. IsPageFinal (V.site (V.fixed view.old))
+        (V.templates (V.fixed view.old)) page.now o) }
 {
-    let mut known = BTreeMap::new(alloc);
-    mark(&mut known, copy(alloc, &frame.value)?, Known::Open)?;
+    let mut known = first_known(alloc, page.ending, &frame.value)?;
     let mut drafts = Vec::new(alloc);
     let mut stack = Vec::new(alloc);
     let mut cut = is_cut(&frame);
@@ -284,32 +357,31 @@ fn run<V: SiteView>(
     }
 }
 
-/// What asking for the page of the term gives. Whatever it gives, the view keeps no new question but such as the page
+/// What asking for the page gives. Whatever it gives, the view keeps no new question but such as the page
 /// may ask.
 pub fn render<V: SiteView>(
     alloc: Global,
     view: &mut V,
     templates: &Templates,
-    term: &Term,
+    page: &PageName,
 ) -> Result<Outcome, NoMemory>
     requires file { file_of templates.now ≡ V.templates (V.fixed view.old) }
     requires own { V.Own view.old }
     ensures own { V.Own view.new }
     ensures fixed { V.fixed view.new ≡ V.fixed view.old }
     ensures kept { KeepsOnly
-        (MayAsk (V.site (V.fixed view.old)) (V.templates (V.fixed view.old)) term.now)
+        (MayAsk (V.site (V.fixed view.old)) (V.templates (V.fixed view.old)) page.now)
         (V.kept view.old) (V.kept view.new) }
     ensures answer { IfOk result
-        (λ o. IsOutcome (V.site (V.fixed view.old)) (V.templates (V.fixed view.old)) term.now o) }
+        (λ o. IsOutcome (V.site (V.fixed view.old)) (V.templates (V.fixed view.old)) page.now o) }
 {
-    if !view.in_site(alloc, term)? {
+    if !view.in_site(alloc, &page.term)? {
         return Ok(Outcome::Missing);
     }
-    let value = Value::Page(term.copy(alloc)?);
-    match frame_of(alloc, view, templates, value, 0)? {
+    match page_frame(alloc, view, templates, page)? {
         None => Ok(Outcome::Missing),
         Some(frame) => {
-            let outcome = run(alloc, view, templates, frame)?;
+            let outcome = run(alloc, view, templates, page, frame)?;
             Ok(outcome)
         }
     }

@@ -1,6 +1,8 @@
 // What a template makes of a value.
 ghost use Rattle.std.specs.Prelude.{◌≡◌, ◌∷◌, [], List, Contains, IfOk, if◌then◌else◌, nat_lt, not};
-ghost use Rattle.page_spec.specs.Show.{show, target, anchor, link};
+ghost use Rattle.page_spec.specs.Show.{anchor};
+ghost use Rattle.page_spec.specs.Addresses.{show, target, link};
+ghost use Rattle.tmpl.specs.Reading.{file_of};
 ghost use Rattle.page_spec.specs.Written.{written};
 ghost use Rattle.std.specs.Fmt.{decimal};
 ghost use Rattle.page_spec.specs.Pieces.{Item, Formatted, Joined, Expands, bytes, embed, delimiter as delimiter_items};
@@ -21,7 +23,7 @@ use page_spec::Bound;
 use sd_value::{NoMemory, Str, Value, copy};
 use site_view::SiteView;
 use std::alloc::Global;
-use tmpl::{Mode, Part, Writing};
+use tmpl::{Ending, Mode, Part, Templates, Writing};
 use token_writer::put_number;
 
 fn add_embed(alloc: Global, value: &Value, out: &mut Expansion) -> Result<(), NoMemory>
@@ -40,43 +42,51 @@ fn add_copy(alloc: Global, text: &Str, out: &mut Expansion) -> Result<(), NoMemo
 
 fn add_written(
     alloc: Global,
+    templates: &Templates,
+    ending: Ending,
     writing: Writing,
     value: &Value,
     out: &mut Expansion,
 ) -> Result<(), NoMemory>
-    ensures { IfOk result (λ _. Adds out.old out.new (bytes (written writing (show value.now)))) }
+    ensures { IfOk result (λ _. Adds out.old out.new
+        (bytes (written writing (show (file_of templates.now) ending value.now)))) }
 {
     let mut text = Vec::new(alloc);
-    push_written(alloc, &mut text, writing, value)?;
+    push_written(alloc, templates, ending, &mut text, writing, value)?;
     out.add_text(Str::of(alloc, text)?)
 }
 
 fn add_link(
     alloc: Global,
+    templates: &Templates,
+    ending: Ending,
     value: &Value,
     label: &Value,
     out: &mut Expansion,
 ) -> Result<(), NoMemory>
-    ensures { IfOk result (λ _. Adds out.old out.new (bytes (link value.now label.now))) }
+    ensures { IfOk result (λ _. Adds out.old out.new
+        (bytes (link (file_of templates.now) ending value.now label.now))) }
 {
     // Most links have no more bytes.
     let mut text = Vec::with_capacity(alloc, 64)?;
-    push_link(alloc, &mut text, value, label)?;
+    push_link(alloc, templates, ending, &mut text, value, label)?;
     out.add_text(Str::of(alloc, text)?)
 }
 
 fn add_labelled(
     alloc: Global,
+    templates: &Templates,
+    ending: Ending,
     value: &Value,
     label: &Str,
     out: &mut Expansion,
 ) -> Result<(), NoMemory>
-    ensures { IfOk result
-        (λ _. Adds out.old out.new (bytes (anchor (target value.now) label.now))) }
+    ensures { IfOk result (λ _. Adds out.old out.new
+        (bytes (anchor (target (file_of templates.now) ending value.now) label.now))) }
 {
     // Most links have no more bytes.
     let mut text = Vec::with_capacity(alloc, 64)?;
-    push_anchor(alloc, &mut text, value, label.bytes())?;
+    push_anchor(alloc, templates, ending, &mut text, value, label.bytes())?;
     out.add_text(Str::of(alloc, text)?)
 }
 
@@ -92,10 +102,12 @@ fn add_count(alloc: Global, count: usize, out: &mut Expansion) -> Result<(), NoM
 fn formatted<V: SiteView>(
     alloc: Global,
     view: &mut V,
+    templates: &Templates,
     mode: &Mode,
     value: &Value,
     out: &mut Expansion,
 ) -> Result<(), NoMemory>
+    requires file { file_of templates.now ≡ V.templates (V.fixed view.old) }
     requires own { V.Own view.old }
     ensures own { V.Own view.new }
     ensures fixed { V.fixed view.new ≡ V.fixed view.old }
@@ -107,16 +119,21 @@ fn formatted<V: SiteView>(
         (V.templates (V.fixed view.old)) mode.now value.now ps × Adds out.old out.new ps) }
 {
     match mode {
-        Mode::Written(writing) => add_written(alloc, *writing, value, out),
-        Mode::Link(word) => match key(alloc, view, value, word)? {
-            Some(label) => add_link(alloc, value, &label, out),
-            None => add_link(alloc, value, value, out),
+        Mode::Written(writing, ending) => {
+            add_written(alloc, templates, *ending, *writing, value, out)
+        }
+        Mode::Link(word, ending) => match key(alloc, view, value, word)? {
+            Some(label) => add_link(alloc, templates, *ending, value, &label, out),
+            None => add_link(alloc, templates, *ending, value, value, out),
         },
-        Mode::Labelled(label) => add_labelled(alloc, value, label, out),
+        Mode::Labelled(label, ending) => {
+            add_labelled(alloc, templates, *ending, value, label, out)
+        }
         Mode::Embed => match view.template_of(alloc, value)? {
             Some(_) => add_embed(alloc, value, out),
-            None => add_written(alloc, Writing::Escaped, value, out),
+            None => add_written(alloc, templates, Ending::Html, Writing::Escaped, value, out),
         },
+        Mode::Base => add_copy(alloc, templates.base(), out),
     }
 }
 
@@ -141,11 +158,13 @@ fn separator(
 fn all_formatted<V: SiteView>(
     alloc: Global,
     view: &mut V,
+    templates: &Templates,
     mode: &Mode,
     values: &[Value],
     delimiter: &Option<Str>,
     out: &mut Expansion,
 ) -> Result<(), NoMemory>
+    requires file { file_of templates.now ≡ V.templates (V.fixed view.old) }
     requires own { V.Own view.old }
     ensures own { V.Own view.new }
     ensures fixed { V.fixed view.new ≡ V.fixed view.old }
@@ -158,7 +177,7 @@ fn all_formatted<V: SiteView>(
 {
     for (number, value) in values.iter().enumerate() {
         separator(alloc, delimiter, number, out)?;
-        formatted(alloc, view, mode, value, out)?;
+        formatted(alloc, view, templates, mode, value, out)?;
     }
     Ok(())
 }
@@ -199,11 +218,13 @@ fn within(
 pub fn expand<V: SiteView>(
     alloc: Global,
     view: &mut V,
+    templates: &Templates,
     here: &Value,
     loops: &[Bound],
     parts: &[Part],
     out: &mut Expansion,
 ) -> Result<(), NoMemory>
+    requires file { file_of templates.now ≡ V.templates (V.fixed view.old) }
     requires own { V.Own view.old }
     ensures own { V.Own view.new }
     ensures fixed { V.fixed view.new ≡ V.fixed view.old }
@@ -220,7 +241,7 @@ pub fn expand<V: SiteView>(
         } (body_of parts.now) ps × Adds out.old out.new ps) }
 {
     for part in parts {
-        expand_part(alloc, view, here, loops, part, out)?;
+        expand_part(alloc, view, templates, here, loops, part, out)?;
     }
     Ok(())
 }
@@ -229,11 +250,13 @@ pub fn expand<V: SiteView>(
 fn expand_part<V: SiteView>(
     alloc: Global,
     view: &mut V,
+    templates: &Templates,
     here: &Value,
     loops: &[Bound],
     part: &Part,
     out: &mut Expansion,
 ) -> Result<(), NoMemory>
+    requires file { file_of templates.now ≡ V.templates (V.fixed view.old) }
     requires own { V.Own view.old }
     ensures own { V.Own view.new }
     ensures fixed { V.fixed view.new ≡ V.fixed view.old }
@@ -251,7 +274,15 @@ fn expand_part<V: SiteView>(
         Part::Format(format) => {
             let values = arranged(alloc, view, here, loops, &format.values, &format.order)?;
             let delimiter = &format.order.delimiter;
-            all_formatted(alloc, view, &format.mode, values.as_slice(), delimiter, out)
+            all_formatted(
+                alloc,
+                view,
+                templates,
+                &format.mode,
+                values.as_slice(),
+                delimiter,
+                out,
+            )
         }
         Part::Count(expr) => {
             let values = range(alloc, view, here, loops, expr)?;
@@ -260,9 +291,11 @@ fn expand_part<V: SiteView>(
         Part::Choice(choice) => {
             let holds = holds(alloc, view, here, loops, &choice.values, &choice.test)?;
             if is_taken(holds, choice.negated) {
-                expand(alloc, view, here, loops, choice.taken.as_slice(), out)
+                let taken = choice.taken.as_slice();
+                expand(alloc, view, templates, here, loops, taken, out)
             } else {
-                expand(alloc, view, here, loops, choice.other.as_slice(), out)
+                let other = choice.other.as_slice();
+                expand(alloc, view, templates, here, loops, other, out)
             }
         }
         Part::Repeat(repeat) => {
@@ -273,6 +306,7 @@ fn expand_part<V: SiteView>(
                 expand(
                     alloc,
                     view,
+                    templates,
                     here,
                     inner.as_slice(),
                     repeat.body.as_slice(),

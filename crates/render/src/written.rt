@@ -1,26 +1,30 @@
 // Texts written line by line, as addresses and for JSON.
 ghost use Rattle.std.specs.Prelude.{◌≡◌, [], ◌∷◌, ◌++◌, ◌<◌, MatchOption, OnOk};
-ghost use Rattle.page_spec.specs.Show.{show};
+ghost use Rattle.page_spec.specs.Addresses.{show};
+ghost use Rattle.tmpl.specs.Reading.{file_of};
 ghost use Rattle.page_spec.specs.Written as spec;
 
 use crate::html::{entity_of, push, push_escaped};
 use address::{hex_digit, push_shown};
 use sd_value::{NoMemory, Value};
 use std::alloc::Global;
-use tmpl::Writing;
+use tmpl::{Ending, Templates, Writing};
 
 /// The text of the value, written so.
 pub fn push_written(
     alloc: Global,
+    templates: &Templates,
+    ending: Ending,
     out: &mut Vec<u8>,
     writing: Writing,
     value: &Value,
 ) -> Result<(), NoMemory>
-    ensures { OnOk result (out.new.items ≡ out.old.items ++ spec.written writing (show value.now)) }
+    ensures { OnOk result (out.new.items ≡ out.old.items
+        ++ spec.written writing (show (file_of templates.now) ending value.now)) }
 {
     // Most values have no more bytes.
     let mut text = Vec::with_capacity(alloc, 64)?;
-    push_shown(alloc, value, &mut text)?;
+    push_shown(alloc, templates, ending, value, &mut text)?;
     push_text(alloc, out, writing, text.as_slice())
 }
 

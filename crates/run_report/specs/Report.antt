@@ -1,7 +1,6 @@
 -- The exit code of a status, and the line that reports it.
 use Rattle.std.specs.Prelude.{◌==◌, ℕ, List, [], ◌++◌, codes, if◌then◌else◌, ⊤}
 use Rattle.std.specs.Fmt.{decimal}
-use Rattle.page_spec.specs.Show.{show, address}
 use Rattle.run_report.specs.declared.status.Status.{Status}
 use Rattle.run_report.specs.declared.status.Status.TheVariants.{Ok, NotAllYes, Usage, Refused, ReadFault, WriteFault, FileFault}
 use Rattle.run_report.specs.declared.status.Status.TheVariants.{WireFault, PageFault, NoMemory, NotFound, TurnsSpent}
@@ -20,7 +19,7 @@ code (ReadFault path) = 4
 code WriteFault = 5
 code (FileFault path) = 5
 code WireFault = 6
-code (PageFault term kind) = 7
+code (PageFault page kind) = 7
 code NoMemory = 8
 code NotFound = 9
 code TurnsSpent = 10
@@ -76,10 +75,15 @@ site_refusal_name number =
     else if number == 85 then codes "UnknownVariable"
     else if number == 86 then codes "Unknown"
     else if number == 87 then codes "TooLarge"
+    else if number == 88 then codes "AddressTaken"
+    else if number == 89 then codes "HasArguments"
     else if number == 101 then codes "Expected"
     else if number == 102 then codes "UnknownFunction"
     else if number == 103 then codes "RootHasArguments"
     else if number == 111 then codes "Expected"
+    else if number == 151 then codes "LocalToNone"
+    else if number == 152 then codes "NotYetKnown"
+    else if number == 153 then codes "BadPattern"
     else []
 
 -- the name of a refusal
@@ -95,7 +99,7 @@ shown (Path path) = codes "#" ++ path
 
 -- why a page has no text or no file
 abbrev pub page_fault : PageKind → List ℕ
-page_fault (Cyclic value) = codes "cyclic embedding at " ++ show value
+page_fault (Cyclic value) = codes "cyclic embedding at " ++ value
 page_fault TooLong = codes "too long"
 page_fault LongName = codes "name too long"
 
@@ -111,7 +115,7 @@ message (ReadFault path) = codes "cannot read " ++ path
 message WriteFault = codes "cannot write"
 message (FileFault path) = codes "cannot write " ++ path
 message WireFault = codes "connection source failed"
-message (PageFault term kind) = codes "page " ++ address term ++ codes ": " ++ page_fault kind
+message (PageFault page kind) = codes "page " ++ page ++ codes ": " ++ page_fault kind
 message NoMemory = codes "out of memory"
 message NotFound = codes "not found"
 message TurnsSpent = codes "turns spent"
@@ -126,5 +130,5 @@ line status = codes "strudel: " ++ message status ++ codes "\n"
 abbrev pub IsFixed : Status → Type 0
 IsFixed (Refused file number place) = ⊥
 IsFixed (ReadFault path) = ⊥
-IsFixed (PageFault term kind) = ⊥
+IsFixed (PageFault page kind) = ⊥
 IsFixed status = ⊤

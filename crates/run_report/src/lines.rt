@@ -4,14 +4,12 @@ ghost use Rattle.std.specs.Fmt.{decimal};
 ghost use Rattle.edge_io.specs.Counts.{Rose};
 ghost use Rattle.edge_io.specs.Sink.{Gains, GainsPart};
 ghost use Rattle.happenings.specs.Happening.{Happening};
-ghost use Rattle.page_spec.specs.Show.{show as show_value, address as address_of};
 ghost use Rattle.run_report.specs.Report.{line, message, shown, page_fault, IsFixed};
 ghost use Rattle.run_report.specs.Report as specs;
 ghost use Rattle.run_report.specs.Told.{TellsText, IsTold, ArePut, file_line};
 ghost use Rattle.run_report.specs.declared.status.Status.TheVariants.{FileFault};
 
 use crate::status::{PageKind, Place, Status};
-use address::{address, show};
 use edge_io::Sink;
 use sd_value::{NoMemory, Str};
 use std::alloc::Global;
@@ -72,10 +70,15 @@ fn site_refusal_name(number: u32) -> &'static [u8]
         85 => b"UnknownVariable",
         86 => b"Unknown",
         87 => b"TooLarge",
+        88 => b"AddressTaken",
+        89 => b"HasArguments",
         101 => b"Expected",
         102 => b"UnknownFunction",
         103 => b"RootHasArguments",
         111 => b"Expected",
+        151 => b"LocalToNone",
+        152 => b"NotYetKnown",
+        153 => b"BadPattern",
         _ => b"",
     }
 }
@@ -107,14 +110,13 @@ fn add_place(text: &mut Vec<u8>, place: &Place) -> Result<(), NoMemory>
     }
 }
 
-fn add_page_fault(alloc: Global, text: &mut Vec<u8>, kind: &PageKind) -> Result<(), NoMemory>
+fn add_page_fault(text: &mut Vec<u8>, kind: &PageKind) -> Result<(), NoMemory>
     ensures { OnOk result (text.new.items ≡ text.old.items ++ page_fault kind.now) }
 {
     match kind {
         PageKind::Cyclic(value) => {
             add(text, b"cyclic embedding at ")?;
-            show(alloc, value, text)?;
-            Ok(())
+            add(text, value.bytes())
         }
         PageKind::TooLong => add(text, b"too long"),
         PageKind::LongName => add(text, b"name too long"),
@@ -151,7 +153,7 @@ fn add_refusal(text: &mut Vec<u8>, file: &Str, number: u32, place: &Place) -> Re
     add_place(text, place)
 }
 
-fn add_message(alloc: Global, text: &mut Vec<u8>, status: &Status) -> Result<(), NoMemory>
+fn add_message(text: &mut Vec<u8>, status: &Status) -> Result<(), NoMemory>
     ensures { OnOk result (text.new.items ≡ text.old.items ++ message status.now) }
 {
     match status {
@@ -166,11 +168,11 @@ fn add_message(alloc: Global, text: &mut Vec<u8>, status: &Status) -> Result<(),
         Status::WriteFault => add(text, b"cannot write"),
         Status::FileFault { path } => add_path(text, b"cannot write ", path),
         Status::WireFault => add(text, b"connection source failed"),
-        Status::PageFault { term, kind } => {
+        Status::PageFault { page, kind } => {
             add(text, b"page ")?;
-            address(alloc, term, text)?;
+            add(text, page.bytes())?;
             add(text, b": ")?;
-            add_page_fault(alloc, text, kind)
+            add_page_fault(text, kind)
         }
         Status::NoMemory => add(text, b"out of memory"),
         Status::NotFound => add(text, b"not found"),
@@ -184,7 +186,7 @@ fn status_line(alloc: Global, status: &Status) -> Result<Vec<u8>, NoMemory>
 {
     let mut text = Vec::new(alloc);
     add(&mut text, b"strudel: ")?;
-    add_message(alloc, &mut text, status)?;
+    add_message(&mut text, status)?;
     add(&mut text, b"\n")?;
     Ok(text)
 }

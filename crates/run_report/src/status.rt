@@ -2,7 +2,7 @@
 ghost use Rattle.std.specs.Prelude.{◌≡◌};
 ghost use Rattle.run_report.specs.Report.{code};
 
-use sd_value::{Str, Term, Value};
+use sd_value::Str;
 
 /// Where an input is refused: at a byte, in a row or a column of a CSV file, or at a JSON value, by its pointer.
 #[derive(Debug, Drop)]
@@ -13,11 +13,11 @@ pub enum Place {
     Path(Str),
 }
 
-/// Why a term has no page or no file: its embedding comes round at a value, its text is too long, or a segment of its
+/// Why a page has no text or no file: its embedding comes round at this value, its text is too long, or a segment of its
 /// file's name is.
 #[derive(Debug, Drop)]
 pub enum PageKind {
-    Cyclic(Value),
+    Cyclic(Str),
     TooLong,
     LongName,
 }
@@ -44,7 +44,7 @@ pub enum Status {
     },
     WireFault,
     PageFault {
-        term: Term,
+        page: Str,
         kind: PageKind,
     },
     NoMemory,

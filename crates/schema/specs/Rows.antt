@@ -34,9 +34,11 @@ IsFunctionIn bodies f = SomeOf (λ (b : Body). SomeOf (IsOf f.name f.arity) b.cr
 
 -- ---- links
 
--- conditions of a version, each behind a line feed
-abbrev pub conditions_text : ℕ → List Condition → List ℕ
-conditions_text version conditions = flat_map (λ c. codes "\n" ++ condition_text version c) conditions
+-- conditions of a version and then NONEs, each behind a line feed
+abbrev pub conditions_text : ℕ → List Condition → List (List Condition) → List ℕ
+conditions_text version conditions nones =
+    flat_map (λ c. codes "\n" ++ condition_text version c) conditions
+    ++ flat_map (λ n. codes "\n" ++ none_text version n) nones
 
 -- the function at which a link starts; links of checked queries start at terms
 abbrev pub source_function : Target → SchemaFunction
@@ -64,7 +66,7 @@ row_of number path conditions k = record {
 
 -- a link of the schema of a query of a version, with the texts of its parts
 abbrev pub row : ℕ → spec.SchemaEdge → SchemaEdge
-row version e = row_of e.number e.path (conditions_text version e.conditions) e.link
+row version e = row_of e.number e.path (conditions_text version e.conditions e.nones) e.link
 
 -- the links of a block, the first with this number
 abbrev pub rows_in : ℕ → List ℕ → List ℕ → List Link → List SchemaEdge
@@ -73,7 +75,8 @@ rows_in number path conditions (k ∷ links) =
     row_of number path conditions k ∷ rows_in (suc number) path conditions links
 
 abbrev pub body_rows : (version number : ℕ) → List ℕ → Body → List SchemaEdge
-body_rows version number path b = rows_in number path (conditions_text version b.conditions) b.links
+body_rows version number path b = rows_in number path (conditions_text version b.conditions b.nones)
+    b.links
 
 -- the links that start at the function
 abbrev pub rows_from : Name → List SchemaEdge → List SchemaEdge

@@ -12,18 +12,37 @@ use crate::{SchemaEdge, SchemaFunction};
 use query_blocks::QueryBlock;
 use sd_value::{NoMemory, Str};
 use std::alloc::Global;
-use struql_ast::{Condition, Link, LinkLabel, Target};
-use struql_print::{print_condition, print_link};
+use struql_ast::{Condition, Link, LinkLabel, NoneOf, Target};
+use struql_print::{print_condition, print_link, print_none};
 use token_writer::{put, put_quoted};
 
-/// The conditions' texts, each behind a line feed.
-fn text_of_conditions(alloc: Global, version: u8, conditions: &[Condition]) -> Result<Str, NoMemory>
-    ensures { IfOk result (λ text. text ≡ conditions_text version (map condition_of conditions.now)) }
+fn put_conditions(version: u8, conditions: &[Condition], text: &mut Vec<u8>) -> Result<(), NoMemory>
+    ensures { IfOk result (λ _. text.new.items ≡ text.old.items
+        ++ flat_map (λ c. codes "\n" ++ condition_text version c)
+        (map condition_of conditions.now)) }
+{
+    for condition in conditions {
+        put(b"\n", text)?;
+        print_condition(version, condition, text)?;
+    }
+    Ok(())
+}
+
+/// The texts of the conditions and then of the NONEs, each behind a line feed.
+fn text_of_conditions(
+    alloc: Global,
+    version: u8,
+    conditions: &[Condition],
+    nones: &[NoneOf],
+) -> Result<Str, NoMemory>
+    ensures { IfOk result (λ text. text
+        ≡ conditions_text version (map condition_of conditions.now) (map none_of nones.now)) }
 {
     let mut text = Vec::new(alloc);
-    for condition in conditions {
+    put_conditions(version, conditions, &mut text)?;
+    for none in nones {
         put(b"\n", &mut text)?;
-        print_condition(version, condition, &mut text)?;
+        print_none(version, none, &mut text)?;
     }
     Str::of(alloc, text)
 }
@@ -122,7 +141,12 @@ fn push_block(
     ensures { IfOk result (λ _. edges.new.items ≡ edges.old.items
         ++ body_rows version (length edges.old.items + 1) path.now (body_of block.now)) }
 {
-    let conditions = text_of_conditions(alloc, version, block.chain.conditions())?;
+    let conditions = text_of_conditions(
+        alloc,
+        version,
+        block.chain.conditions(),
+        block.chain.nones(),
+    )?;
     push_links(alloc, path, &conditions, &block.links, edges)
 }
 

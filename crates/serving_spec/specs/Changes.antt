@@ -1,7 +1,7 @@
 -- What texts do to the data of a run, which of them came, and what they leave of the pages that are kept.
 use Rattle.std.specs.Prelude.{◌≡◌, ◌⊎◌, ℕ, Bool, List, [], ◌∷◌, ◌++◌, if◌then◌else◌}
 use Rattle.std.specs.List.{flat_map}
-use Rattle.sd_value.specs.declared.Term.{Term}
+use Rattle.page_spec.specs.declared.PageName.{PageName}
 use Rattle.tmpl.specs.Body.{TemplateFile}
 use Rattle.page_spec.specs.Page.{IsOutcome}
 use Rattle.page_spec.specs.Site.{Site}
@@ -12,11 +12,11 @@ use Rattle.serving_spec.specs.Made.{Made, AllLooked}
 use Rattle.serving_spec.specs.declared.HubEnd.{HubEnd}
 use Rattle.serving_spec.specs.declared.HubEnd.TheVariants.{NoMemory}
 
--- What texts do to what is current: what each makes of it, which are accepted, and which terms' pages then surely stay.
+-- What texts do to what is current: what each makes of it, which are accepted, and which pages then surely stay.
 pub record Changes (D : Type 0) : Type 0 where
   pub changed : D → List ℕ → D
   pub accepts : D → List ℕ → Bool
-  pub stays : D → List ℕ → Term → Bool
+  pub stays : D → List ℕ → PageName → Bool
 
 -- what is current after the event, where changed is what a text makes of it
 abbrev pub state_after : {D : Type 0} → (D → List ℕ → D) → WireEvent → D → D
@@ -57,18 +57,18 @@ refused_in texts current (event ∷ events) =
     ++ refused_in texts (state_after texts.changed event current) events
 
 -- what is kept of the pages after the event: a text renews it, and every look-up is one step of it
-abbrev pub Keeps : {C : Type 0} → (C → Term → C → Type 0) → (List ℕ → C → C → Type 0) → WireEvent
+abbrev pub Keeps : {C : Type 0} → (C → PageName → C → Type 0) → (List ℕ → C → C → Type 0) → WireEvent
     → Made → C → C → Type 0
-Keeps Looks Renews (Opened number) made before after = AllLooked Looks before made.terms after
-Keeps Looks Renews (Bytes number piece) made before after = AllLooked Looks before made.terms after
-Keeps Looks Renews (Ended number) made before after = AllLooked Looks before made.terms after
-Keeps Looks Renews (Lost number) made before after = AllLooked Looks before made.terms after
+Keeps Looks Renews (Opened number) made before after = AllLooked Looks before made.pages after
+Keeps Looks Renews (Bytes number piece) made before after = AllLooked Looks before made.pages after
+Keeps Looks Renews (Ended number) made before after = AllLooked Looks before made.pages after
+Keeps Looks Renews (Lost number) made before after = AllLooked Looks before made.pages after
 Keeps Looks Renews (Change text) made before after = Renews text before after
-Keeps Looks Renews Done made before after = AllLooked Looks before made.terms after
+Keeps Looks Renews Done made before after = AllLooked Looks before made.pages after
 
 module _ {D : Type 0} (site : D → Site) (templates : D → TemplateFile) (texts : Changes D) where
   -- a look-up while this is current
-  abbrev pub LooksAt : D → Kept → Term → Kept → Type 0
+  abbrev pub LooksAt : D → Kept → PageName → Kept → Type 0
   LooksAt current = LooksIn (IsOutcome (site current) (templates current))
 
   -- a text came while this was current: where it is accepted, those are kept on whose pages surely stay

@@ -1,6 +1,6 @@
 -- What is counted in a run, told by its events and by what each connection is sent.
 use Rattle.std.specs.Prelude.{◌≡◌, ◌+◌, ◌==◌, ◌⊎◌, ℕ, Bool, false, List, [], ◌∷◌, ◌++◌, map, ⊤, if◌then◌else◌}
-use Rattle.sd_value.specs.declared.Term.{Term}
+use Rattle.page_spec.specs.declared.PageName.{PageName}
 use Rattle.http_spec.specs.declared.Standing.{Standing}
 use Rattle.http_spec.specs.declared.Standing.TheVariants.{Short}
 use Rattle.http_spec.specs.Asks.{ask_of}
@@ -14,18 +14,18 @@ use Rattle.serving_spec.specs.Inputs.{Input, Unopened}
 use Rattle.serving_spec.specs.Made.{Made, nothing, replies_in, LooksUp, MayLookUp}
 use Rattle.serving_spec.specs.Sent.{IsServedBy}
 
--- a term that was looked up, and what was current then
+-- a page that was looked up, and what was current then
 pub record LookUp (D : Type 0) : Type 0 where
-  pub term : Term
+  pub page : PageName
   pub current : D
 
--- a term was looked up while this was current
-abbrev pub look_up : {D : Type 0} → D → Term → LookUp D
-look_up current term = record { term = term; current = current }
+-- a page was looked up while this was current
+abbrev pub look_up : {D : Type 0} → D → PageName → LookUp D
+look_up current page = record { page = page; current = current }
 
--- these terms were, one after another
-abbrev pub look_ups : {D : Type 0} → D → List Term → List (LookUp D)
-look_ups current terms = map (look_up current) terms
+-- these pages were, one after another
+abbrev pub look_ups : {D : Type 0} → D → List PageName → List (LookUp D)
+look_ups current pages = map (look_up current) pages
 
 -- What is counted of a connection: how many of its replies are no 503, and its look-ups, in their order.
 pub record Counts (D : Type 0) : Type 0 where
@@ -40,30 +40,31 @@ no_counts = record { replies = 0; looked = [] }
 abbrev pub counts_with : {D : Type 0} → Counts D → D → Made → Counts D
 counts_with counts current made = record {
   replies = counts.replies + made.replies;
-  looked = counts.looked ++ look_ups current made.terms;
+  looked = counts.looked ++ look_ups current made.pages;
 }
 
--- What is looked up for these requests, one after another: for each its term, if it has one, when its last byte comes.
-abbrev pub LooksUpFor : {D : Type 0} → (D → Showing) → (List ℕ → Term → Type 0) → List (Request D)
-    → List (LookUp D) → Type 0
-LooksUpFor page Names [] looked = looked ≡ []
-LooksUpFor page Names (r ∷ requests) looked =
-    (terms : List Term) × (others : List (LookUp _))
-    × LooksUp Names (ask_of (page r.current).hosts r.head).kind r.head.target terms
-    × LooksUpFor page Names requests others
-    × (looked ≡ look_ups r.current terms ++ others)
+-- What is looked up for these requests, one after another: for each the pages of its target, when its last byte comes.
+abbrev pub LooksUpFor : {D : Type 0} → (D → Showing) → (D → List ℕ → List PageName → Type 0)
+    → List (Request D) → List (LookUp D) → Type 0
+LooksUpFor page Finds [] looked = looked ≡ []
+LooksUpFor page Finds (r ∷ requests) looked =
+    (pages : List PageName) × (others : List (LookUp _))
+    × LooksUp (Finds r.current) (ask_of (page r.current).hosts r.head).kind r.head.target pages
+    × LooksUpFor page Finds requests others
+    × (looked ≡ look_ups r.current pages ++ others)
 
--- Over pages whose data may change, where Names says which term a target names.
-module _ {D : Type 0} (page : D → Showing) (Names : List ℕ → Term → Type 0) (limit : ℕ) where
-  -- These are the replies to a connection's bytes, and this is counted of them. One term more may be looked up if it was
-  -- out of memory for its reply.
+-- Over pages whose data may change, where Finds says which pages are looked up for a target.
+module _ {D : Type 0} (page : D → Showing) (Finds : D → List ℕ → List PageName → Type 0)
+    (limit : ℕ) where
+  -- These are the replies to a connection's bytes, and this is counted of them. Two pages more may be looked up if it was
+  -- out of memory for their reply.
   pub record CountedAnswer (counts : Counts D) (stream : List (Timed D)) (ended : Bool)
       (standing : Standing) (replies : List (List ℕ)) : Type 0 where
     pub answer : AnswersStream page limit stream ended standing replies
     pub looked : List (LookUp D)
     pub extra : List (LookUp D)
     pub count : counts.replies ≡ replies_in standing replies
-    pub looks : LooksUpFor page Names answer.requests looked
+    pub looks : LooksUpFor page Finds answer.requests looked
     pub may : MayLookUp standing extra
     pub whole : counts.looked ≡ looked ++ extra
 

@@ -2,32 +2,32 @@
 use Rattle.std.specs.Prelude.{◌≡◌, ℕ, ◌+◌, ◌-◌, ◌≤◌, ◌^◌, min, nat_le, Bool, List, [], ◌∷◌, length, sum_by, take, filter, find}
 use Rattle.std.specs.Prelude.{Option, Some, None, if◌then◌else◌}
 use Rattle.std.specs.Ordering.{is_eq}
-use Rattle.sd_value.specs.declared.Term.{Term}
-use Rattle.sd_value.specs.Order.{term_cmp}
+use Rattle.page_spec.specs.declared.PageName.{PageName}
+use Rattle.page_spec.specs.PageNames.{page_cmp}
 use Rattle.page_spec.specs.declared.Outcome.{Outcome}
 use Rattle.page_spec.specs.declared.Outcome.TheVariants.{Page, Missing, Cyclic, TooLong}
 use Rattle.serving_spec.specs.declared.CacheRoom.{CacheRoom}
 use Rattle.serving_spec.specs.declared.Hit.{Hit}
 use Rattle.serving_spec.specs.declared.Hit.TheVariants.{Found, Miss}
 
--- the terms are equal
-abbrev pub is_same : Term → Term → Bool
-is_same a b = is_eq (term_cmp a b)
+-- the pages are equal
+abbrev pub is_same : PageName → PageName → Bool
+is_same a b = is_eq (page_cmp a b)
 
--- a page that is kept: its term, and how many bytes its text has
+-- a page that is kept: its name, and how many bytes its text has
 pub record KeptPage : Type 0 where
-  pub term : Term
+  pub name : PageName
   pub bytes : ℕ
 
--- the page of the term among these, if it is there
-abbrev pub kept_page : Term → List KeptPage → Option KeptPage
-kept_page term pages = find (λ page. is_same term page.term) pages
+-- the page of the name among these, if it is there
+abbrev pub kept_page : PageName → List KeptPage → Option KeptPage
+kept_page name pages = find (λ page. is_same name page.name) pages
 
--- the pages without that of the term
-abbrev pub without : Term → List KeptPage → List KeptPage
-without term [] = []
-without term (page ∷ pages) =
-    if is_same term page.term then pages else page ∷ without term pages
+-- the pages without that of the name
+abbrev pub without : PageName → List KeptPage → List KeptPage
+without name [] = []
+without name (page ∷ pages) =
+    if is_same name page.name then pages else page ∷ without name pages
 
 -- how many bytes the pages have together
 abbrev pub bytes_of : List KeptPage → ℕ
@@ -41,22 +41,22 @@ newest_within bytes (page ∷ pages) =
 
 -- the pages that are kept after this outcome was found: a page for which there is room goes in front, and the oldest go
 -- where they are too many, or have too many bytes with it
-abbrev pub kept_with : CacheRoom → Term → Outcome → List KeptPage → List KeptPage
-kept_with room term (Page text) kept =
+abbrev pub kept_with : CacheRoom → PageName → Outcome → List KeptPage → List KeptPage
+kept_with room name (Page text) kept =
     if nat_le (length text) room.bytes
-    then record { term = term; bytes = length text }
+    then record { name = name; bytes = length text }
     ∷ newest_within (room.bytes - length text) (take (room.pages - 1) kept)
     else kept
-kept_with room term Missing kept = kept
-kept_with room term (Cyclic value) kept = kept
-kept_with room term TooLong kept = kept
+kept_with room name Missing kept = kept
+kept_with room name (Cyclic value) kept = kept
+kept_with room name TooLong kept = kept
 
 -- one look-up: a page that is kept goes to the front, and another is kept where there is room for it
-abbrev pub Looks : CacheRoom → List KeptPage → Term → Outcome → Hit → List KeptPage → Type 0
-Looks room kept term outcome Found after =
-    (page : KeptPage) × (kept_page term kept ≡ Some page) × (after ≡ page ∷ without term kept)
-Looks room kept term outcome Miss after =
-    (kept_page term kept ≡ None) × (after ≡ kept_with room term outcome kept)
+abbrev pub Looks : CacheRoom → List KeptPage → PageName → Outcome → Hit → List KeptPage → Type 0
+Looks room kept name outcome Found after =
+    (page : KeptPage) × (kept_page name kept ≡ Some page) × (after ≡ page ∷ without name kept)
+Looks room kept name outcome Miss after =
+    (kept_page name kept ≡ None) × (after ≡ kept_with room name outcome kept)
 
 -- the count of hits after a look-up; at its last value it stays
 abbrev pub hits_after : Hit → ℕ → ℕ
@@ -64,8 +64,8 @@ hits_after Found hits = min (hits + 1) (2 ^ 64 - 1)
 hits_after Miss hits = hits
 
 -- the pages that are kept after a text: where it is accepted, those that surely stay, in their order
-abbrev pub kept_after : Bool → (Term → Bool) → List KeptPage → List KeptPage
-kept_after accepted stays kept = if accepted then filter (λ page. stays page.term) kept else kept
+abbrev pub kept_after : Bool → (PageName → Bool) → List KeptPage → List KeptPage
+kept_after accepted stays kept = if accepted then filter (λ page. stays page.name) kept else kept
 
 -- what is kept: how much room there is, the pages, the newest first, and how often one was found
 pub record Kept : Type 0 where
@@ -78,12 +78,12 @@ pub record IsWithinRoom (kept : Kept) : Type 0 where
   pub pages : length kept.pages ≤ kept.room.pages
   pub bytes : bytes_of kept.pages ≤ kept.room.bytes
 
--- a look-up of a term, whose page has this outcome
-pub record LooksIn (HasOutcome : Term → Outcome → Type 0) (before : Kept) (term : Term)
+-- a look-up of a page, which has this outcome
+pub record LooksIn (HasOutcome : PageName → Outcome → Type 0) (before : Kept) (name : PageName)
     (after : Kept) : Type 0 where
   pub outcome : Outcome
   pub hit : Hit
-  pub is : HasOutcome term outcome
-  pub pages : Looks before.room before.pages term outcome hit after.pages
+  pub is : HasOutcome name outcome
+  pub pages : Looks before.room before.pages name outcome hit after.pages
   pub hits : after.hits ≡ hits_after hit before.hits
   pub room : after.room ≡ before.room

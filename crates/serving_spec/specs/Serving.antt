@@ -2,7 +2,6 @@
 use Rattle.std.specs.Prelude.{◌≡◌, ◌+◌, ℕ, List, [], length}
 use Rattle.std.specs.List.{fold, AllZip}
 use Rattle.tmpl.specs.Body.{TemplateFile}
-use Rattle.page_spec.specs.Address.{TermOf}
 use Rattle.page_spec.specs.Site.{Site}
 use Rattle.wire.specs.Accounts.{up_by}
 use Rattle.wire.specs.Events.{add_event, IsDrawn}
@@ -12,7 +11,7 @@ use Rattle.serving_spec.specs.Changes.{Changes, state_after, texts_in, refused_i
 use Rattle.serving_spec.specs.Counted.{IsCounted, MayMake, made_of}
 use Rattle.serving_spec.specs.Looks.{Kept}
 use Rattle.serving_spec.specs.Inputs.{input_of}
-use Rattle.serving_spec.specs.Made.{Made}
+use Rattle.serving_spec.specs.Made.{Made, finds_in}
 use Rattle.serving_spec.specs.RunEnds.{EndsRun}
 use Rattle.serving_spec.specs.Sent.{seen, IsServed}
 use Rattle.serving_spec.specs.Shown.{shown_in}
@@ -43,14 +42,14 @@ abbrev pub first_when : {D : Type 0} → D → When D
 first_when start = record { event = 0; current = start }
 
 -- The counts of a run. makes is what each event makes. An event makes the replies to the requests whose last byte it
--- has, and looks up their terms; so what the events of a connection make is what is counted of its replies.
+-- has, and looks up their pages; so what the events of a connection make is what is counted of its replies.
 pub record Tallied {D : Type 0} (origin : Origin) (site : D → Site) (templates : D → TemplateFile)
     (texts : Changes D) (start : D) (requests : ℕ) (room : CacheRoom)
     (before after : WireReport) (events : List WireEvent) (tally : Tally) : Type 0 where
   pub makes : List Made
   pub one_each : AllZip MayMake events makes
   pub each : (number : ℕ) → IsCounted (λ when. shown_in origin site templates when.current)
-      (TermOf origin.root) requests
+      (λ when. finds_in site templates when.current) requests
       (made_of (after_when texts.changed) (first_when start) number events makes)
       (input_of (after_when texts.changed) (first_when start) number events)
       (seen before number) (seen after number)

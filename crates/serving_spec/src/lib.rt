@@ -45,8 +45,6 @@ pub struct Served {
 /// What a run answers for.
 #[derive(Debug, Drop)]
 pub struct Origin {
-    /// The function of the term for `/`, if there is one.
-    pub root: Option<Str>,
     /// The hosts whose requests are answered, with commas between them; without them all are.
     pub hosts: Option<Str>,
 }
@@ -58,7 +56,7 @@ pub struct CacheRoom {
     pub bytes: u64,
 }
 
-/// Whether the page of a term was kept when it was looked up.
+/// Whether a page was kept when it was looked up.
 #[derive(Clone, Copy, Debug, PartialEq, Eq)]
 pub enum Hit {
     Found,

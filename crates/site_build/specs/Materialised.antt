@@ -6,7 +6,8 @@ use Rattle.sd_value.specs.declared.Value.TheVariants.{Page}
 use Rattle.sd_value.specs.Order.{term_cmp}
 use Rattle.sd_value.specs.Ascending.{ListsExactly}
 use Rattle.graph_spec.specs.DataGraph.{DataGraph, IsWellFormed}
-use Rattle.tmpl.specs.Body.{TemplateFile}
+use Rattle.tmpl.specs.Body.{TemplateFile, presented_in}
+use Rattle.page_spec.specs.declared.PageName.{PageName}
 use Rattle.page_spec.specs.Pieces.{First}
 use Rattle.query_spec.specs.Query.{Aggregate, Target, plain, made, summed, Link, Collect}
 use Rattle.query_spec.specs.Holds.{Assignment}
@@ -109,6 +110,6 @@ pub record IsWhole (G : DataGraph) (scopes : QueryBlocks) (contents : Contents) 
   pub ranges : AreRanges contents.links.items (length contents.links.items)
       (range_at contents.ranges)
 
--- the term's function has a template
-abbrev pub HasPageTemplate : TemplateFile → Term → Type 0
-HasPageTemplate f t = (k : ℕ) × First (λ name. name ≡ t.function) f.functions k
+-- a template makes the page
+abbrev pub IsTemplatedPage : TemplateFile → PageName → Type 0
+IsTemplatedPage f p = (k : ℕ) × (presented_in f p.term.function p.ending ≡ Some k)

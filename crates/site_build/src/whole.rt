@@ -1,16 +1,18 @@
 // The whole site as a view, and its pages.
-ghost use Rattle.std.specs.Prelude.{◌≡◌, ◌↔◌, ℕ, [], Contains, IfOk, IsTrue};
+ghost use Rattle.std.specs.Prelude.{◌≡◌, ◌↔◌, ◌++◌, ℕ, List, [], Contains, IfOk, IsTrue};
 ghost use Rattle.std.specs.List.Sorted.{IsStrictlySortedBy};
 ghost use Rattle.sd_value.specs.declared.Term.{Term as AnyTerm};
 ghost use Rattle.sd_value.specs.declared.Value.{Value as AnyValue};
 ghost use Rattle.sd_value.specs.declared.Value.TheVariants.{Page};
 ghost use Rattle.sd_value.specs.Order.{bytes_cmp, term_cmp, value_cmp};
+ghost use Rattle.page_spec.specs.declared.PageName.{PageName as AnyPage};
+ghost use Rattle.page_spec.specs.PageNames.{page_cmp};
 ghost use Rattle.sd_value.specs.Ascending.{ListsExactly};
 ghost use Rattle.tmpl.specs.Reading.{file_of};
 ghost use Rattle.page_spec.specs.Site.{MayStart};
 ghost use Rattle.site_spec.specs.Site.{InSite, SiteEdge, Collected, SomeOf};
 ghost use Rattle.query_blocks.specs.Blocks.{scope_of};
-ghost use Rattle.site_build.specs.Materialised.{HasPageTemplate, IsWhole};
+ghost use Rattle.site_build.specs.Materialised.{IsTemplatedPage, IsWhole};
 ghost use Rattle.site_build.specs.Gains.{Gains};
 ghost use Rattle.site_build.specs.Fixed.{Fixed as AnyFixed, fixed_site};
 
@@ -21,14 +23,14 @@ use crate::ordered::Joined;
 use crate::picked::{ends_from, has_term, put_values};
 use asker::Asker;
 use indexmap::IndexSet;
-use page_spec::Outcome;
+use page_spec::{Outcome, PageName};
 use query_blocks::QueryBlocks;
 use render::render;
 use sd_value::{NoMemory, Str, Term, Value, sort_and_dedup};
-use site_lookups::{function_template, members, template};
+use site_lookups::{members, template};
 use site_view::{Pages, SiteView};
 use std::alloc::Global;
-use tmpl::Templates;
+use tmpl::{Ending, Templates};
 
 /// The site of a query's blocks over the data that an asker answers for, with a file of templates. Its contents are made
 /// once, from all rows of all blocks; edges and members of the data are still asked for.
@@ -136,28 +138,57 @@ fn collected_values<A: Asker>(
     Ok(values)
 }
 
-fn has_page_template(templates: &Templates, term: &Term) -> bool
-    ensures { IsTrue result ↔ HasPageTemplate (file_of templates.now) term.now }
+/// The endings of pages, in their order.
+const ENDINGS: [Ending; 10] = [
+    Ending::Html,
+    Ending::Bib,
+    Ending::Css,
+    Ending::Csv,
+    Ending::Ics,
+    Ending::Js,
+    Ending::Json,
+    Ending::Svg,
+    Ending::Txt,
+    Ending::Xml,
+];
+
+// Adds the pages of the term that templates make, in the order of their endings.
+fn add_pages(
+    alloc: Global,
+    templates: &Templates,
+    term: &Term,
+    pages: &mut Vec<PageName>,
+) -> Result<(), NoMemory>
+    ensures { IfOk result (λ _. (added : List AnyPage)
+        × (pages.new.items ≡ pages.old.items ++ added)
+        × ListsExactly page_cmp
+        (λ p. (p.term ≡ term.now) × IsTemplatedPage (file_of templates.now) p) added) }
 {
-    match function_template(templates.functions(), &term.function) {
-        Some(_) => true,
-        None => false,
+    for ending in &ENDINGS {
+        if templates.presented(&term.function, *ending).is_some() {
+            let term = term.copy(alloc)?;
+            pages.push(PageName {
+                term,
+                ending: *ending,
+            })?;
+        }
     }
+    Ok(())
 }
 
-// Those of the terms whose function has a template, in their order.
-fn page_terms(alloc: Global, templates: &Templates, terms: &[Term]) -> Result<Vec<Term>, NoMemory>
+// The pages of the terms that templates make, in their order.
+fn page_names(
+    alloc: Global,
+    templates: &Templates,
+    terms: &[Term],
+) -> Result<Vec<PageName>, NoMemory>
     requires { IsStrictlySortedBy term_cmp terms.now }
-    ensures { IfOk result
-        (λ ps. ListsExactly term_cmp
-        (λ p. Contains terms.now p × HasPageTemplate (file_of templates.now) p) ps.items) }
+    ensures { IfOk result (λ ps. ListsExactly page_cmp
+        (λ p. Contains terms.now p.term × IsTemplatedPage (file_of templates.now) p) ps.items) }
 {
     let mut pages = Vec::new(alloc);
     for term in terms {
-        if !has_page_template(templates, term) {
-            continue;
-        }
-        pages.push(term.copy(alloc)?)?;
+        add_pages(alloc, templates, term, &mut pages)?;
     }
     Ok(pages)
 }
@@ -189,6 +220,7 @@ impl<'q, A: Asker + Drop> Whole<'q, A> {
     ghost use Rattle.std.specs.Prelude.{◌≡◌, ℕ, List, IfOk};
     ghost use Rattle.sd_value.specs.declared.Value.{Value as AnyValue};
     ghost use Rattle.sd_value.specs.Order.{bytes_cmp, term_cmp};
+    ghost use Rattle.page_spec.specs.PageNames.{page_cmp};
     ghost use Rattle.sd_value.specs.Ascending.{ListsExactly};
     ghost use Rattle.tmpl.specs.Reading.{file_of};
     ghost use Rattle.page_spec.specs.Page.{IsPresent};
@@ -221,15 +253,15 @@ impl<'q, A: Asker + Drop> Whole<'q, A> {
         })
     }
 
-    /// The site's terms whose function has a template, strictly ascending.
-    pub fn pages(&self, alloc: Global) -> Result<Vec<Term>, NoMemory>
+    /// The site's pages that templates make, strictly ascending: by term, and then by ending.
+    pub fn pages(&self, alloc: Global) -> Result<Vec<PageName>, NoMemory>
         requires { IsWhole (A.graph self.now.asker) self.now.scopes.now self.now.contents }
         ensures { IfOk result
-            (λ ts. ListsExactly term_cmp
+            (λ ts. ListsExactly page_cmp
             (IsPresent (site_of (A.graph self.now.asker) (scope_of self.now.scopes.now))
             (file_of self.now.templates.now)) ts.items) }
     {
-        let pages = page_terms(alloc, self.templates, self.contents.terms.as_slice())?;
+        let pages = page_names(alloc, self.templates, self.contents.terms.as_slice())?;
         Ok(pages)
     }
 
@@ -318,9 +350,13 @@ impl<'q, A: Asker> Pages for Whole<'q, A> {
 
     ghost Own = { λ w. IsWhole (A.graph w.asker) w.scopes.now w.contents };
 
-    fn page(&mut self, alloc: Global, term: &Term) -> Result<Outcome, NoMemory> {
+    fn template_file(&self) -> &Templates {
+        self.templates
+    }
+
+    fn page(&mut self, alloc: Global, page: &PageName) -> Result<Outcome, NoMemory> {
         let templates = self.templates;
-        let outcome = render(alloc, self, templates, term)?;
+        let outcome = render(alloc, self, templates, page)?;
         Ok(outcome)
     }
 }

@@ -7,7 +7,7 @@ use Rattle.std.specs.Str.{bytes_eq}
 use Rattle.std.proofs.lemmas.Slice.Eq.{bytes_eq-Decides}
 use Rattle.std.proofs.lemmas.List.Elements.{Contains-append_left}
 use Rattle.happenings.specs.Happening.{Happening, Wrote, Kept, WriteFailed}
-use Rattle.sd_value.specs.declared.Term.{Term}
+use Rattle.page_spec.specs.declared.PageName.{PageName}
 use Rattle.tmpl.specs.Body.{TemplateFile}
 use Rattle.edge_io.specs.Files.{FileMap, put_file}
 use Rattle.page_spec.specs.Site.{Site}
@@ -15,7 +15,7 @@ use Rattle.page_spec.specs.Page.{IsOutcome}
 use Rattle.page_spec.specs.declared.Outcome.TheVariants as outcome
 use Rattle.files_spec.specs.declared.stop.Stop.{Stop}
 use Rattle.files_spec.specs.declared.stop.Stop.TheVariants.{Faulty, Unwritten, NoMemory}
-use Rattle.files_spec.specs.Files.{root_term, PagesWritten, RootEnds, SiteEnds}
+use Rattle.files_spec.specs.Files.{root_page, PagesWritten, RootEnds, SiteEnds}
 use Rattle.page_spec.proofs.Texts.{outcome_unique}
 use Rattle.page_spec.specs.declared.Outcome.{Outcome}
 use Rattle.files_spec.specs.Paths.{page_path, index_path}
@@ -78,26 +78,26 @@ module _ (s : Site) (f : TemplateFile) (folder : List ℕ) (root : Option (List 
   failed_right path other text (inl is) = cc
   failed_right path other text (inr is) = cc
 
-  module _ (terms : List Term) (stands : IsStanding s f folder terms root map) where
-    pages_right : (front : List Term) (part : List Happening) → ((t : Term) → Contains front t → Contains terms t) → AllZip (IsPageWritten s f folder) front part → AllRight map part
+  module _ (terms : List PageName) (stands : IsStanding s f folder terms root map) where
+    pages_right : (front : List PageName) (part : List Happening) → ((t : PageName) → Contains front t → Contains terms t) → AllZip (IsPageWritten s f folder) front part → AllRight map part
     pages_right [] [] among z = tt
     pages_right [] (h ∷ part) among z = absurd z
     pages_right (t ∷ front) [] among z = absurd z
     pages_right (t ∷ front) (h ∷ part) among z = (
-      λ other there put. put_right (page_path folder t) z.0.text other there h z.0.its
+      λ other there put. put_right (page_path f folder t) z.0.text other there h z.0.its
           (stands.pages t z.0.text (among t (zero, omega arith, refl)) z.0.is_text.is_outcome) put,
       pages_right front part (λ u at. among u (let (i, within, is) = at in (suc i, omega (within, arith), is))) z.1,
     )
 
-    missed_right : (missed : List Term) → AllRight map (map_list (failed_write s f folder) missed)
+    missed_right : (missed : List PageName) → AllRight map (map_list (failed_write s f folder) missed)
     missed_right [] = tt
-    missed_right (t ∷ missed) = (failed_right (page_path folder t), missed_right missed)
+    missed_right (t ∷ missed) = (failed_right (page_path f folder t), missed_right missed)
 
-    some_right : (missed : List Term) (part : List Happening) → WritesSome s f folder terms missed part → AllRight map part
+    some_right : (missed : List PageName) (part : List Happening) → WritesSome s f folder terms missed part → AllRight map part
     some_right missed part w =
         rw w.part_is
         (both map w.done (map_list (failed_write s f folder) missed)
-        (pages_right w.front w.done (λ t at. subst (λ (ts : List Term). Contains ts t) w.terms_are (Contains-append_left w.front (missed ++ w.left) t at)) w.written)
+        (pages_right w.front w.done (λ t at. subst (λ (ts : List PageName). Contains ts t) w.terms_are (Contains-append_left w.front (missed ++ w.left) t at)) w.written)
         (missed_right missed))
 
     index_right : (part : List Happening) (end : Result ⊤ Stop) → IndexWrites s f folder terms root part end → AllRight map part
@@ -125,7 +125,7 @@ module _ (s : Site) (f : TemplateFile) (folder : List ℕ) (root : Option (List 
     site_right part (Err reason) (inl h) = stopped_right part reason h
     site_right part (Err reason) (inr h) = then_right part (Err reason) h
 
-pub standing_stays : (s : Site) (f : TemplateFile) (folder : List ℕ) (terms : List Term) (root : Option (List ℕ)) → StandingStays s f folder terms root
+pub standing_stays : (s : Site) (f : TemplateFile) (folder : List ℕ) (terms : List PageName) (root : Option (List ℕ)) → StandingStays s f folder terms root
 standing_stays s f folder terms root map part end writes spare stands =
     none_written map map part (λ path. refl) (site_right s f folder root map terms stands part end writes) spare
 
@@ -143,86 +143,86 @@ put_there map path text = elim (at_put map path text path) [ inl is ↦ is | inr
 
 module _ (s : Site) (f : TemplateFile) (folder : List ℕ) where
   -- the page of one of these terms is at the path
-  record IsPageAt (ts : List Term) (new : FileMap) (path : List ℕ) : Type 0 where
-    t : Term
+  record IsPageAt (ts : List PageName) (new : FileMap) (path : List ℕ) : Type 0 where
+    t : PageName
     among : Contains ts t
-    is_path : page_path folder t ≡ path
+    is_path : page_path f folder t ≡ path
     text : List ℕ
     is_text : IsOutcome s f t (outcome.Page text)
     there : new path ≡ Some text
 
-  later : (u : Term) (ts : List Term) (new : FileMap) (path : List ℕ) → IsPageAt ts new path → IsPageAt (u ∷ ts) new path
+  later : (u : PageName) (ts : List PageName) (new : FileMap) (path : List ℕ) → IsPageAt ts new path → IsPageAt (u ∷ ts) new path
   later u ts new path p = record { t = p.t; among = (let (i, within, is) = p.among in (suc i, omega (within, arith), is)); is_path = p.is_path; text = p.text; is_text = p.is_text; there = p.there }
 
-  page_or_old : (ts : List Term) (old new : FileMap) (path : List ℕ) → PagesWritten s f folder ts old new → IsPageAt ts new path ⊎ (new path ≡ old path)
+  page_or_old : (ts : List PageName) (old new : FileMap) (path : List ℕ) → PagesWritten s f folder ts old new → IsPageAt ts new path ⊎ (new path ≡ old path)
   page_or_old [] old new path w = inr (ap (λ (m : FileMap). m path) w)
   page_or_old (u ∷ ts) old new path w =
-      elim (page_or_old ts (put_file old (page_path folder u) w.0) new path w.2) [
+      elim (page_or_old ts (put_file old (page_path f folder u) w.0) new path w.2) [
         | inl at ↦ inl (later u ts new path at)
-        | inr same ↦ at_head (bytes_eq (page_path folder u) path) refl same
+        | inr same ↦ at_head (bytes_eq (page_path f folder u) path) refl same
       ]
     where
-      at_head : (b : Bool) → bytes_eq (page_path folder u) path ≡ b → new path ≡ put_file old (page_path folder u) w.0 path → IsPageAt (u ∷ ts) new path ⊎ (new path ≡ old path)
+      at_head : (b : Bool) → bytes_eq (page_path f folder u) path ≡ b → new path ≡ put_file old (page_path f folder u) w.0 path → IsPageAt (u ∷ ts) new path ⊎ (new path ≡ old path)
       at_head true e same =
-          let is : page_path folder u ≡ path = grind (arith, e, bytes_eq-Decides (page_path folder u) path) in
+          let is : page_path f folder u ≡ path = grind (arith, e, bytes_eq-Decides (page_path f folder u) path) in
           inl (record { t = u; among = (zero, omega arith, refl); is_path = is; text = w.0; is_text = w.1.is_outcome; there = same ∙ rw e refl })
       at_head false e same = inr (same ∙ rw e refl)
 
   -- some page is at the path of each
-  some_page : (ts : List Term) (old new : FileMap) (t : Term) → PagesWritten s f folder ts old new → Contains ts t → IsPageAt ts new (page_path folder t)
+  some_page : (ts : List PageName) (old new : FileMap) (t : PageName) → PagesWritten s f folder ts old new → Contains ts t → IsPageAt ts new (page_path f folder t)
   some_page [] old new t w (i, within, is) = absurd (omega (within, arith))
   some_page (u ∷ ts) old new t w (suc i, within, is) =
-      later u ts new (page_path folder t) (some_page ts (put_file old (page_path folder u) w.0) new t w.2 (i, omega (within, arith), is))
+      later u ts new (page_path f folder t) (some_page ts (put_file old (page_path f folder u) w.0) new t w.2 (i, omega (within, arith), is))
   some_page (u ∷ ts) old new t w (zero, within, is) =
-      elim (page_or_old ts (put_file old (page_path folder u) w.0) new (page_path folder t) w.2) [
-        | inl at ↦ later u ts new (page_path folder t) at
+      elim (page_or_old ts (put_file old (page_path f folder u) w.0) new (page_path f folder t) w.2) [
+        | inl at ↦ later u ts new (page_path f folder t) at
         | inr same ↦ record {
           t = u;
           among = (zero, omega arith, refl);
-          is_path = ap (page_path folder) is;
+          is_path = ap (page_path f folder) is;
           text = w.0;
           is_text = w.1.is_outcome;
-          there = same ∙ subst (λ (v : Term). put_file old (page_path folder u) w.0 (page_path folder v) ≡ Some w.0) is (put_there old (page_path folder u) w.0);
+          there = same ∙ subst (λ (v : PageName). put_file old (page_path f folder u) w.0 (page_path f folder v) ≡ Some w.0) is (put_there old (page_path f folder u) w.0);
         }
       ]
 
-  same_text : (t : Term) (a b : List ℕ) → IsOutcome s f t (outcome.Page a) → IsOutcome s f t (outcome.Page b) → a ≡ b
+  same_text : (t : PageName) (a b : List ℕ) → IsOutcome s f t (outcome.Page a) → IsOutcome s f t (outcome.Page b) → a ≡ b
   same_text t a b x y = let e : ◌≡◌ {A = Outcome} (outcome.Page a) (outcome.Page b) = outcome_unique s f t (outcome.Page a) (outcome.Page b) x y in cc
 
-  module _ (terms : List Term) (root : Option (List ℕ)) (apart : AreApart s f folder terms root) where
-    pages_stand : (old new : FileMap) (t : Term) (text : List ℕ) → PagesWritten s f folder terms old new → Contains terms t → IsOutcome s f t (outcome.Page text) → new (page_path folder t) ≡ Some text
+  module _ (terms : List PageName) (root : Option (List ℕ)) (apart : AreApart s f folder terms root) where
+    pages_stand : (old new : FileMap) (t : PageName) (text : List ℕ) → PagesWritten s f folder terms old new → Contains terms t → IsOutcome s f t (outcome.Page text) → new (page_path f folder t) ≡ Some text
     pages_stand old new t text w among is =
         let at = some_page terms old new t w among in
         let same : at.t ≡ t = apart.pages at.t t at.among among at.is_path in
-        let its : IsOutcome s f t (outcome.Page at.text) = subst (λ (u : Term). IsOutcome s f u (outcome.Page at.text)) same at.is_text in
+        let its : IsOutcome s f t (outcome.Page at.text) = subst (λ (u : PageName). IsOutcome s f u (outcome.Page at.text)) same at.is_text in
         at.there ∙ ap (λ (x : List ℕ). Some x) (same_text t at.text text its is)
 
     -- `index.html` is written last, over nothing but the root's own page
-    over_index : (function written : List ℕ) (now new : FileMap) → root ≡ Some function → IsOutcome s f (root_term function) (outcome.Page written) → new ≡ put_file now (index_path folder) written
-        → ((t : Term) (text : List ℕ) → Contains terms t → IsOutcome s f t (outcome.Page text) → now (page_path folder t) ≡ Some text)
+    over_index : (function written : List ℕ) (now new : FileMap) → root ≡ Some function → IsOutcome s f (root_page function) (outcome.Page written) → new ≡ put_file now (index_path folder) written
+        → ((t : PageName) (text : List ℕ) → Contains terms t → IsOutcome s f t (outcome.Page text) → now (page_path f folder t) ≡ Some text)
         → IsStanding s f folder terms root new
     over_index function written now new is_root is_written is_new stand = record {
-      pages = λ t text among is. by t text among is (bytes_eq (index_path folder) (page_path folder t)) refl;
+      pages = λ t text among is. by t text among is (bytes_eq (index_path folder) (page_path f folder t)) refl;
       index = λ other text other_root among is.
           let same_root : Some function ≡ Some other = sym is_root ∙ other_root in
           let same : function ≡ other = cc in
-          let its : IsOutcome s f (root_term other) (outcome.Page written) = subst (λ (g : List ℕ). IsOutcome s f (root_term g) (outcome.Page written)) same is_written in
-          ap (λ (m : FileMap). m (index_path folder)) is_new ∙ put_there now (index_path folder) written ∙ ap (λ (x : List ℕ). Some x) (same_text (root_term other) written text its is);
+          let its : IsOutcome s f (root_page other) (outcome.Page written) = subst (λ (g : List ℕ). IsOutcome s f (root_page g) (outcome.Page written)) same is_written in
+          ap (λ (m : FileMap). m (index_path folder)) is_new ∙ put_there now (index_path folder) written ∙ ap (λ (x : List ℕ). Some x) (same_text (root_page other) written text its is);
     }
       where
-        by : (t : Term) (text : List ℕ) → Contains terms t → IsOutcome s f t (outcome.Page text) → (b : Bool) → bytes_eq (index_path folder) (page_path folder t) ≡ b → new (page_path folder t) ≡ Some text
+        by : (t : PageName) (text : List ℕ) → Contains terms t → IsOutcome s f t (outcome.Page text) → (b : Bool) → bytes_eq (index_path folder) (page_path f folder t) ≡ b → new (page_path f folder t) ≡ Some text
         by t text among is true e =
-            let path_is : index_path folder ≡ page_path folder t = grind (arith, e, bytes_eq-Decides (index_path folder) (page_path folder t)) in
-            let page_is : t ≡ root_term function = apart.index t function among is_root (sym path_is) in
-            let its : IsOutcome s f t (outcome.Page written) = subst (λ (u : Term). IsOutcome s f u (outcome.Page written)) (sym page_is) is_written in
-            ap (λ (m : FileMap). m (page_path folder t)) is_new ∙ subst (λ (p : List ℕ). put_file now (index_path folder) written p ≡ Some written) path_is (put_there now (index_path folder) written)
+            let path_is : index_path folder ≡ page_path f folder t = grind (arith, e, bytes_eq-Decides (index_path folder) (page_path f folder t)) in
+            let page_is : t ≡ root_page function = apart.index t function among is_root (sym path_is) in
+            let its : IsOutcome s f t (outcome.Page written) = subst (λ (u : PageName). IsOutcome s f u (outcome.Page written)) (sym page_is) is_written in
+            ap (λ (m : FileMap). m (page_path f folder t)) is_new ∙ subst (λ (p : List ℕ). put_file now (index_path folder) written p ≡ Some written) path_is (put_there now (index_path folder) written)
             ∙ ap (λ (x : List ℕ). Some x) (same_text t written text its is)
-        by t text among is false e = ap (λ (m : FileMap). m (page_path folder t)) is_new ∙ rw e (stand t text among is)
+        by t text among is false e = ap (λ (m : FileMap). m (page_path f folder t)) is_new ∙ rw e (stand t text among is)
 
-    no_index_needed : (now new : FileMap) → new ≡ now → ((t : Term) (text : List ℕ) → Contains terms t → IsOutcome s f t (outcome.Page text) → now (page_path folder t) ≡ Some text)
-        → ((function : List ℕ) → root ≡ Some function → Contains terms (root_term function) → ⊥) → IsStanding s f folder terms root new
+    no_index_needed : (now new : FileMap) → new ≡ now → ((t : PageName) (text : List ℕ) → Contains terms t → IsOutcome s f t (outcome.Page text) → now (page_path f folder t) ≡ Some text)
+        → ((function : List ℕ) → root ≡ Some function → Contains terms (root_page function) → ⊥) → IsStanding s f folder terms root new
     no_index_needed now new is stand none = record {
-      pages = λ t text among o. ap (λ (m : FileMap). m (page_path folder t)) is ∙ stand t text among o;
+      pages = λ t text among o. ap (λ (m : FileMap). m (page_path f folder t)) is ∙ stand t text among o;
       index = λ function text is_root among o. absurd (none function is_root among);
     }
 
@@ -237,7 +237,7 @@ module _ (s : Site) (f : TemplateFile) (folder : List ℕ) where
             over_index function text h.between new is o new_is (λ t x at p. pages_stand old h.between t x h.written at p)
         by (Some function) is (inr (absent, new_is)) =
             no_index_needed h.between new new_is (λ t x at p. pages_stand old h.between t x h.written at p)
-            (λ other also among. let both : Some function ≡ Some other = sym is ∙ also in (let same : function ≡ other = cc in absent (subst (λ (g : List ℕ). Contains terms (root_term g)) (sym same) among)))
+            (λ other also among. let both : Some function ≡ Some other = sym is ∙ also in (let same : function ≡ other = cc in absent (subst (λ (g : List ℕ). Contains terms (root_page g)) (sym same) among)))
 
-pub written_stands : (s : Site) (f : TemplateFile) (folder : List ℕ) (terms : List Term) (root : Option (List ℕ)) → WrittenStands s f folder terms root
+pub written_stands : (s : Site) (f : TemplateFile) (folder : List ℕ) (terms : List PageName) (root : Option (List ℕ)) → WrittenStands s f folder terms root
 written_stands s f folder terms root apart old new ends = site_stands s f folder terms root apart old new ends

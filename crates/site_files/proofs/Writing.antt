@@ -4,7 +4,7 @@ use Rattle.std.specs.Prelude.{Contains, Option, Some, None, Result, Ok, Err, OnO
 use Rattle.std.specs.List.{AllZip}
 use Rattle.std.proofs.lemmas.List.{take_more, take_all, drop_more, take-append-drop, append-nil}
 use Rattle.happenings.specs.Happening.{Happening, Wrote, Kept, WriteFailed}
-use Rattle.sd_value.specs.declared.Term.{Term}
+use Rattle.page_spec.specs.declared.PageName.{PageName}
 use Rattle.tmpl.specs.Body.{TemplateFile}
 use Rattle.edge_io.specs.Files.{FileMap, PutsFile, stored_event, IsStoredOver}
 use Rattle.edge_io.specs.declared.answers.Stored.{Stored}
@@ -16,7 +16,7 @@ use Rattle.page_spec.specs.Segments.{HasLongSegment}
 use Rattle.files_spec.specs.declared.stop.Stop.{Stop}
 use Rattle.files_spec.specs.declared.stop.Stop.TheVariants.{Faulty, Unwritten, NoMemory}
 use Rattle.files_spec.specs.Paths.{file_name, page_path, index_path}
-use Rattle.files_spec.specs.Files.{root_term}
+use Rattle.files_spec.specs.Files.{root_page}
 use Rattle.files_spec.specs.Writes.{IsPageWritten, failed_write, PagesWrite, IndexWrites, PagesThenIndex, SiteWrites, Adds}
 use Rattle.std.specs.Option.{ForSome}
 use Rattle.site_files.specs.Traced.{AreSparing, PutAdds, PageAdds, IndexAdds}
@@ -29,39 +29,39 @@ stored_adds o n path text before now stored.Written added puts over = (Wrote pat
 stored_adds o n path text before now stored.Kept added puts over = (Kept path text, inr refl, (λ map is. (over map is, puts map is)), added)
 
 module _ (s : Site) (f : TemplateFile) (folder : List ℕ) where
-  abbrev IsDone : Term → Happening → Type 0
+  abbrev IsDone : PageName → Happening → Type 0
   IsDone = IsPageWritten s f folder
 
   -- the put of a page's text is the page's write
-  pub put_adds : (old new : Option FileMap) (t : Term) (text : List ℕ) (before now : List Happening) (end : Result ⊤ Stop) → IsOutcome s f t (outcome.Page text)
-      → OnOk end (HasLongSegment (file_name t) → ⊥) → PutAdds old new (page_path folder t) text before now end → PageAdds old new s f folder t before now end
+  pub put_adds : (old new : Option FileMap) (t : PageName) (text : List ℕ) (before now : List Happening) (end : Result ⊤ Stop) → IsOutcome s f t (outcome.Page text)
+      → OnOk end (HasLongSegment (file_name f t) → ⊥) → PutAdds old new (page_path f folder t) text before now end → PageAdds old new s f folder t before now end
   put_adds old new t text before now (Ok u) o short (h, is, spares, added) = (h, record { text = text; is_text = record { is_outcome = o; has_file = short }; its = is }, spares, added)
   put_adds old new t text before now (Err (Faulty term kind)) o short h = h
   put_adds old new t text before now (Err (Unwritten path)) o short h = h
   put_adds old new t text before now (Err NoMemory) o short h = h
 
   -- the put of a text as `index.html`, and its failed write
-  pub index_put : (old new : Option FileMap) (page : Term) (path bytes text : List ℕ) (before now : List Happening) (answer : Stored) → path ≡ index_path folder → bytes ≡ text → IsOutcome s f page (outcome.Page text)
+  pub index_put : (old new : Option FileMap) (page : PageName) (path bytes text : List ℕ) (before now : List Happening) (answer : Stored) → path ≡ index_path folder → bytes ≡ text → IsOutcome s f page (outcome.Page text)
       → now ≡ before ++ stored_event answer path bytes ∷ [] → PutsFile old new path bytes → ForSome old (λ map. IsStoredOver (map path) bytes answer) → IndexAdds old new s f folder page before now (Ok tt)
   index_put old new page path bytes text before now answer is same o added puts over =
       (text, o, rw (sym is, sym same) (stored_adds old new path bytes before now answer added puts over))
 
-  pub index_failed : (old new : Option FileMap) (page : Term) (path : List ℕ) (before now : List Happening) → path ≡ index_path folder → now ≡ before ++ WriteFailed path ∷ [] → IndexAdds old new s f folder page before now (Err (Unwritten path))
+  pub index_failed : (old new : Option FileMap) (page : PageName) (path : List ℕ) (before now : List Happening) → path ≡ index_path folder → now ≡ before ++ WriteFailed path ∷ [] → IndexAdds old new s f folder page before now (Err (Unwritten path))
   index_failed old new page path before now is h = (is, h)
 
-  zip_push : (ts : List Term) (part : List Happening) (t : Term) (h : Happening) → AllZip IsDone ts part → IsDone t h → AllZip IsDone (ts ++ t ∷ []) (part ++ h ∷ [])
+  zip_push : (ts : List PageName) (part : List Happening) (t : PageName) (h : Happening) → AllZip IsDone ts part → IsDone t h → AllZip IsDone (ts ++ t ∷ []) (part ++ h ∷ [])
   zip_push [] [] t h a r = (r, tt)
   zip_push [] (g ∷ part) t h a r = absurd a
   zip_push (u ∷ ts) [] t h a r = absurd a
   zip_push (u ∷ ts) (g ∷ part) t h a r = (a.0, zip_push ts part t h a.1 r)
 
   -- the pages of these terms were written so
-  pub record ArePut (o n : Option FileMap) (ts : List Term) (part : List Happening) : Type 0 where
+  pub record ArePut (o n : Option FileMap) (ts : List PageName) (part : List Happening) : Type 0 where
     pub each : AllZip IsDone ts part
     pub sparing : AreSparing o n part (Ok tt)
 
   -- one more page
-  pub more_written : (o n l : Option FileMap) (terms : List Term) (i : ℕ) (t : Term) (before now later : List Happening) → i < length terms → t ≡ get_or terms i t
+  pub more_written : (o n l : Option FileMap) (terms : List PageName) (i : ℕ) (t : PageName) (before now later : List Happening) → i < length terms → t ≡ get_or terms i t
       → Adds before now (ArePut o n (take i terms)) → PageAdds n l s f folder t now later (Ok tt) → Adds before later (ArePut o l (take (i + 1) terms))
   more_written o n l terms i t before now later within is a (h, done, spares, added) = record {
     part = a.part ++ h ∷ [];
@@ -72,7 +72,7 @@ module _ (s : Site) (f : TemplateFile) (folder : List ℕ) where
     };
   }
 
-  pub all_written : (o n : Option FileMap) (terms : List Term) (i : ℕ) (before now : List Happening) → length terms ≤ i → Adds before now (ArePut o n (take i terms))
+  pub all_written : (o n : Option FileMap) (terms : List PageName) (i : ℕ) (before now : List Happening) → length terms ≤ i → Adds before now (ArePut o n (take i terms))
       → Adds before now (λ part. PagesWrite s f folder terms part (Ok tt) × AreSparing o n part (Ok tt))
   all_written o n terms i before now l a = record {
     part = a.part;
@@ -81,7 +81,7 @@ module _ (s : Site) (f : TemplateFile) (folder : List ℕ) where
   }
 
   -- the page at which writing stops
-  pub stop_written : (o n l : Option FileMap) (terms : List Term) (i : ℕ) (t : Term) (before now later : List Happening) (stop : Stop) → i < length terms → t ≡ get_or terms i t
+  pub stop_written : (o n l : Option FileMap) (terms : List PageName) (i : ℕ) (t : PageName) (before now later : List Happening) (stop : Stop) → i < length terms → t ≡ get_or terms i t
       → Adds before now (ArePut o n (take i terms)) → PageAdds n l s f folder t now later (Err stop) → Adds before later (λ part. PagesWrite s f folder terms part (Err stop) × AreSparing o l part (Err stop))
   stop_written o n l terms i t before now later (Faulty term kind) within is a p = record {
     part = a.part;
@@ -115,17 +115,17 @@ module _ (s : Site) (f : TemplateFile) (folder : List ℕ) where
           part_is = refl;
         },
       ),
-      sparing_failed o n l a.part (page_path folder t) (Unwritten path) a.its.sparing,
+      sparing_failed o n l a.part (page_path f folder t) (Unwritten path) a.its.sparing,
     );
   }
 
   -- the root page, where it is one of the terms
-  pub index_among : (o n : Option FileMap) (terms : List Term) (root : List ℕ) (page : Term) (before now : List Happening) (end : Result ⊤ Stop) → page ≡ root_term root → Contains terms page
+  pub index_among : (o n : Option FileMap) (terms : List PageName) (root : List ℕ) (page : PageName) (before now : List Happening) (end : Result ⊤ Stop) → page ≡ root_page root → Contains terms page
       → IndexAdds o n s f folder page before now end → Adds before now (λ part. IndexWrites s f folder terms (Some root) part end × AreSparing o n part end)
   index_among o n terms root page before now (Ok u) is among (text, outcome_is, (h, put, spares, added)) = record {
     part = h ∷ [];
     added = added;
-    its = (inl (subst (Contains terms) is among, text, subst (λ (t : Term). IsOutcome s f t (outcome.Page text)) is outcome_is, h, put, refl), sparing_one o n h spares);
+    its = (inl (subst (Contains terms) is among, text, subst (λ (t : PageName). IsOutcome s f t (outcome.Page text)) is outcome_is, h, put, refl), sparing_one o n h spares);
   }
   index_among o n terms root page before now (Err (Unwritten path)) is among p = record {
     part = WriteFailed path ∷ [];
@@ -143,25 +143,25 @@ module _ (s : Site) (f : TemplateFile) (folder : List ℕ) where
     its = (refl, sparing_stop o o n [] NoMemory (sparing_none o o (Ok tt) refl));
   }
 
-  pub index_absent : (o n : Option FileMap) (terms : List Term) (root : List ℕ) (before : List Happening) → n ≡ o → (Contains terms (root_term root) → ⊥)
+  pub index_absent : (o n : Option FileMap) (terms : List PageName) (root : List ℕ) (before : List Happening) → n ≡ o → (Contains terms (root_page root) → ⊥)
       → Adds before before (λ part. IndexWrites s f folder terms (Some root) part (Ok tt) × AreSparing o n part (Ok tt))
   index_absent o n terms root before same absent = record { part = []; added = sym (append-nil before); its = (inr (absent, refl), sparing_none o n (Ok tt) same) }
 
-  pub index_short : (o n : Option FileMap) (terms : List Term) (root : List ℕ) (before : List Happening) → n ≡ o
+  pub index_short : (o n : Option FileMap) (terms : List PageName) (root : List ℕ) (before : List Happening) → n ≡ o
       → Adds before before (λ part. IndexWrites s f folder terms (Some root) part (Err NoMemory) × AreSparing o n part (Err NoMemory))
   index_short o n terms root before same = record { part = []; added = sym (append-nil before); its = (refl, sparing_none o n (Err NoMemory) same) }
 
   -- the pages stopped
-  pub site_stops : (o n : Option FileMap) (terms : List Term) (root : Option (List ℕ)) (before now : List Happening) (stop : Stop) → Adds before now (λ part. PagesWrite s f folder terms part (Err stop) × AreSparing o n part (Err stop))
+  pub site_stops : (o n : Option FileMap) (terms : List PageName) (root : Option (List ℕ)) (before now : List Happening) (stop : Stop) → Adds before now (λ part. PagesWrite s f folder terms part (Err stop) × AreSparing o n part (Err stop))
       → Adds before now (λ part. SiteWrites s f folder terms root part (Err stop) × AreSparing o n part (Err stop))
   site_stops o n terms root before now stop a = record { part = a.part; added = a.added; its = (inl a.its.0, a.its.1) }
 
-  whole_site : (terms : List Term) (root : Option (List ℕ)) (part : List Happening) (end : Result ⊤ Stop) → PagesThenIndex s f folder terms root part end → SiteWrites s f folder terms root part end
+  whole_site : (terms : List PageName) (root : Option (List ℕ)) (part : List Happening) (end : Result ⊤ Stop) → PagesThenIndex s f folder terms root part end → SiteWrites s f folder terms root part end
   whole_site terms root part (Ok u) h = h
   whole_site terms root part (Err stop) h = inr h
 
   -- all pages, and then the root page
-  pub site_written : (o n l : Option FileMap) (terms : List Term) (root given : Option (List ℕ)) (before now later : List Happening) (end : Result ⊤ Stop) → given ≡ root
+  pub site_written : (o n l : Option FileMap) (terms : List PageName) (root given : Option (List ℕ)) (before now later : List Happening) (end : Result ⊤ Stop) → given ≡ root
       → Adds before now (λ part. PagesWrite s f folder terms part (Ok tt) × AreSparing o n part (Ok tt)) → Adds now later (λ part. IndexWrites s f folder terms root part end × AreSparing n l part end)
       → Adds before later (λ part. SiteWrites s f folder terms given part end × AreSparing o l part end)
   site_written o n l terms root given before now later end is a b = record {
@@ -174,5 +174,5 @@ module _ (s : Site) (f : TemplateFile) (folder : List ℕ) where
     );
   }
 
-  pub no_index : (o : Option FileMap) (terms : List Term) (now : List Happening) → Adds now now (λ part. IndexWrites s f folder terms None part (Ok tt) × AreSparing o o part (Ok tt))
+  pub no_index : (o : Option FileMap) (terms : List PageName) (now : List Happening) → Adds now now (λ part. IndexWrites s f folder terms None part (Ok tt) × AreSparing o o part (Ok tt))
   no_index o terms now = record { part = []; added = sym (append-nil now); its = (refl, sparing_none o o (Ok tt) refl) }

@@ -2,7 +2,7 @@
 use Rattle.std.specs.Prelude.{◌≡◌, ℕ, List, [], ◌∷◌, ◌++◌, Option, Some, Result, Ok, Err, OnOk, ⊤}
 use Rattle.std.specs.Option.{ForSome}
 use Rattle.happenings.specs.Happening.{Happening, WriteFailed}
-use Rattle.sd_value.specs.declared.Term.{Term}
+use Rattle.page_spec.specs.declared.PageName.{PageName}
 use Rattle.tmpl.specs.Body.{TemplateFile}
 use Rattle.edge_io.specs.Files.{FileMap}
 use Rattle.page_spec.specs.Site.{Site}
@@ -39,17 +39,17 @@ module _ (old new : Option FileMap) where
   PutAdds path text before now (Err stop) = now ≡ before
 
   module _ (site : Site) (templates : TemplateFile) (folder : List ℕ) where
-    -- the term's page was written, or its write failed, or nothing was done
-    abbrev pub PageAdds : Term → (before now : List Happening) → Result ⊤ Stop → Type 0
+    -- the page was written, or its write failed, or nothing was done
+    abbrev pub PageAdds : PageName → (before now : List Happening) → Result ⊤ Stop → Type 0
     PageAdds t before now (Ok u) =
         (h : Happening) × IsPageWritten site templates folder t h × IsSparing old new h
         × (now ≡ before ++ h ∷ [])
     PageAdds t before now (Err (Unwritten path)) =
-        (path ≡ page_path folder t) × (now ≡ before ++ failed_write site templates folder t ∷ [])
+        (path ≡ page_path templates folder t) × (now ≡ before ++ failed_write site templates folder t ∷ [])
     PageAdds t before now (Err stop) = now ≡ before
 
-    -- the same of the term's page as `index.html`
-    abbrev pub IndexAdds : Term → (before now : List Happening) → Result ⊤ Stop → Type 0
+    -- the same of the page as `index.html`
+    abbrev pub IndexAdds : PageName → (before now : List Happening) → Result ⊤ Stop → Type 0
     IndexAdds t before now (Ok u) =
         (text : List ℕ) × IsOutcome site templates t (outcome.Page text)
         × PutAdds (index_path folder) text before now (Ok u)

@@ -1,5 +1,6 @@
 pub mod Runs
 pub mod Sources
+pub mod Placed
 pub mod Sites
 pub mod Values
 pub mod Statuses

@@ -11,7 +11,7 @@ use Rattle.site_inputs.specs.declared.fault.Fault.TheVariants as fault
 abbrev pub status_of : Fault → Status
 status_of (fault.Refused refusal) = Refused refusal.file refusal.number refusal.place
 status_of (fault.Unread path) = ReadFault path
-status_of (fault.Faulty term kind) = PageFault term kind
+status_of (fault.Faulty page kind) = PageFault page kind
 status_of fault.NotFound = NotFound
 status_of fault.NoMemory = NoMemory
 

@@ -2,7 +2,7 @@
 ghost use Rattle.std.specs.Prelude.{◌≡◌, ◌⊎◌};
 
 use run_report::{PageKind, Place, Status};
-use sd_value::{NoMemory, Str, Term};
+use sd_value::{NoMemory, Str};
 use std::alloc::Global;
 
 /// The first input that isn't accepted.
@@ -18,7 +18,7 @@ pub struct Refusal {
 pub enum Fault {
     Refused(Refusal),
     Unread(Str),
-    Faulty { term: Term, kind: PageKind },
+    Faulty { page: Str, kind: PageKind },
     NotFound,
     NoMemory,
 }
@@ -47,7 +47,7 @@ impl From<Fault> for Status {
                 place: refusal.place,
             },
             Fault::Unread(path) => Status::ReadFault { path },
-            Fault::Faulty { term, kind } => Status::PageFault { term, kind },
+            Fault::Faulty { page, kind } => Status::PageFault { page, kind },
             Fault::NotFound => Status::NotFound,
             Fault::NoMemory => Status::NoMemory,
         }

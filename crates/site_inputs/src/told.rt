@@ -67,6 +67,18 @@ fn told_of_check(refusal: &CheckRefusal) -> Result<NumberedFault, NoMemory>
             number: 68,
             at: *at,
         }),
+        CheckRefusal::LocalToNone(at) => Ok(NumberedFault {
+            number: 151,
+            at: *at,
+        }),
+        CheckRefusal::NotYetKnown(at) => Ok(NumberedFault {
+            number: 152,
+            at: *at,
+        }),
+        CheckRefusal::BadPattern(at) => Ok(NumberedFault {
+            number: 153,
+            at: *at,
+        }),
         CheckRefusal::NoMemory => Err(NoMemory),
     }
 }
@@ -116,6 +128,10 @@ pub fn told_of_templates(refusal: &TmplRefusal) -> Result<NumberedFault, NoMemor
         }),
         TmplRefusal::TooLarge(at) => Ok(NumberedFault {
             number: 87,
+            at: *at,
+        }),
+        TmplRefusal::AddressTaken(at) => Ok(NumberedFault {
+            number: 88,
             at: *at,
         }),
         TmplRefusal::NoMemory => Err(NoMemory),

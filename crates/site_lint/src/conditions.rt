@@ -52,6 +52,9 @@ fn has_outright(condition: &Condition, name: &Str) -> bool
         Condition::OneOf { operand, .. } => is_operand(operand, name),
         Condition::Kind { variable, .. } => name == variable,
         Condition::Not(_, _) => false,
+        Condition::Gives { left, args, .. } => {
+            is_operand(left, name) || args.items().iter().any(|arg| is_operand(arg, name))
+        }
     }
 }
 
@@ -74,6 +77,10 @@ pub(crate) fn is_arc(chain: &Chain, name: &Str) -> bool
     ensures { IsTrue result ↔ Contains (flat_map arc_names chain.now.conditions) name.now }
 {
     some_has_arc(chain.conditions(), name)
+        || chain
+            .nones()
+            .iter()
+            .any(|none| some_has_arc(&none.conditions, name))
 }
 
 /// Whether no condition outside of `not` mentions the variable.

@@ -29,6 +29,7 @@ fn number_of(what: &Asked) -> u32
         Asked::Created(_) => 146,
         Asked::Variable { .. } => 147,
         Asked::Rows(_) => 148,
+        Asked::Value { .. } => 155,
         Asked::Tag => 149,
         Asked::Member(_) => 156,
         Asked::Shown => 157,

@@ -16,6 +16,7 @@ use crate::conditions::{is_arc, is_unbounded};
 use crate::links::{LinkAnswers, SiteLinks, has_none, none_has};
 use crate::lookups::{has_unknown, is_absent, is_empty_collection, is_only_collected, is_unknown};
 use crate::names::SiteNames;
+use crate::values::is_marked_before;
 use link_index::NameSet;
 use lint_spec::Asked;
 use query_blocks::{QueryBlock, QueryBlocks};
@@ -37,6 +38,7 @@ pub struct LintedSite<'a, 'b, S, L> {
     pub further: &'a [Str],
     pub names: &'a SiteNames,
     pub without_rows: &'a [bool],
+    pub without_value: &'a [Vec<bool>],
     pub has_active_end: bool,
 }
 
@@ -160,6 +162,9 @@ pub(crate) fn is_mistake<S: Store, L: LinkAnswers>(
             Ok(is_unbounded_in(site.blocks, *block, variable))
         }
         Asked::Rows(number) => Ok(is_marked(site.without_rows, *number)),
+        Asked::Value { block, after } => {
+            Ok(is_marked_before(site.without_value, *block, *after))
+        }
         Asked::Created(function) => {
             Ok(is_absent(&names.reached, function) && is_other(&names.root, function))
         }

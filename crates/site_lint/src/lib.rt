@@ -10,6 +10,7 @@ mod links;
 mod lookups;
 mod names;
 mod rows;
+mod values;
 
 pub use ends::has_active_end;
 pub use findings::{findings_of, is_note};
@@ -17,3 +18,4 @@ pub use judged::LintedSite;
 pub use links::{LinkAnswers, SiteLinks, links_of};
 pub use names::{SiteNames, names_of};
 pub use rows::blocks_without_rows;
+pub use values::calls_without_value;

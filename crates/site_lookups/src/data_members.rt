@@ -7,7 +7,7 @@ ghost use Rattle.site_lookups.specs.MemberChain.{member_chain};
 
 use crate::all_rows::targets_of;
 use asker::Asker;
-use query_spec::{Bound, Variable};
+use query_spec::{Bound, Sort, Variable};
 use sd_lex::Span;
 use sd_value::{Datum, NoMemory, Str, Value};
 use std::alloc::Global;
@@ -21,7 +21,7 @@ pub fn members_chain(alloc: Global, collection: &Str) -> Result<Chain, NoMemory>
     let mut variables = Vec::new(alloc);
     variables.push(Variable {
         name: Str::new(alloc, &[120])?,
-        arc: false,
+        sort: Sort::Node,
     })?;
     let mut conditions = Vec::new(alloc);
     conditions.push(Condition::Member {
@@ -30,7 +30,7 @@ pub fn members_chain(alloc: Global, collection: &Str) -> Result<Chain, NoMemory>
         variable_span: Span { start: 0, end: 0 },
         span,
     })?;
-    Ok(Chain::new(1, variables, conditions))
+    Ok(Chain::new(1, variables, conditions, Vec::new(alloc)))
 }
 
 /// Whether the node is a member of the data graph's collection. The answer counts one.

@@ -14,10 +14,10 @@ use bindings::StoreAsker;
 use click_time::Click;
 use edit_spec::Edit;
 use live_store::LiveStore;
-use page_spec::Outcome;
+use page_spec::{Outcome, PageName};
 use query_blocks::QueryBlocks;
 use sd_graph::Graph;
-use sd_value::{NoMemory, Term};
+use sd_value::NoMemory;
 use site_build::Whole;
 use site_view::Pages;
 use std::alloc::Global;
@@ -53,10 +53,17 @@ impl<'q> Pages for MadePages<'q> {
       | FromWhole whole ↦ ⟦<Whole<'q, StoreAsker<LiveStore>> as Pages>⟧.Own whole
     ] };
 
-    fn page(&mut self, alloc: Global, term: &Term) -> Result<Outcome, NoMemory> {
+    fn template_file(&self) -> &Templates {
         match self {
-            MadePages::Demanded(click) => click.page(alloc, term),
-            MadePages::FromWhole(whole) => whole.page(alloc, term),
+            MadePages::Demanded(click) => click.template_file(),
+            MadePages::FromWhole(whole) => whole.template_file(),
+        }
+    }
+
+    fn page(&mut self, alloc: Global, page: &PageName) -> Result<Outcome, NoMemory> {
+        match self {
+            MadePages::Demanded(click) => click.page(alloc, page),
+            MadePages::FromWhole(whole) => whole.page(alloc, page),
         }
     }
 }

@@ -3,7 +3,6 @@ use Rattle.std.specs.Prelude.{List}
 use Rattle.happenings.specs.Happening.{Happening}
 use Rattle.command_spec.specs.declared.RunLimits.{RunLimits}
 use Rattle.site_spec.specs.Site.{scope_of}
-use Rattle.site_spec.specs.Root.{root_function}
 use Rattle.site_inputs.specs.Sites.{Inputs}
 use Rattle.wire.specs.Told.{WireReport}
 use Rattle.serving_spec.specs.declared.CacheRoom.{CacheRoom}
@@ -17,13 +16,14 @@ use Rattle.site_pages.specs.Texts.{Current, current_site, current_templates, dat
 -- what is current before the first text
 abbrev pub first_data : Inputs → Current
 first_data s = record {
-  first = s.first;
+  making = s.making;
+  stated = s.stated;
   pages = record { graph = s.graph; scope = scope_of s.query; templates = s.templates };
 }
 
 -- what a run over these inputs answers for
 abbrev pub origin_of : Inputs → RunLimits → Origin
-origin_of s limits = record { root = root_function s.query; hosts = limits.hosts }
+origin_of s limits = record { hosts = limits.hosts }
 
 -- the room for kept pages
 abbrev pub room_of : RunLimits → CacheRoom

@@ -4,14 +4,12 @@
 ghost use Rattle.std.specs.Prelude.{◌≡◌, ◌⊎◌, IfOk, OnErr};
 ghost use Rattle.edge_io.specs.Counts.{Rose};
 ghost use Rattle.command_spec.specs.Ranges.{AreLimits};
-ghost use Rattle.query_blocks.specs.Blocks.{scope_of};
-ghost use Rattle.query_blocks.specs.Roots.{root_of_bodies};
 ghost use Rattle.site_inputs.specs.Values.{inputs_of};
 ghost use Rattle.site_pages.specs.Rules.{the_rules};
 ghost use Rattle.site_serving.specs.Served.{ServesSite, ServesSiteBy, ServesSiteInSteps, StepsBy};
 
 use command_spec::RunLimits;
-use query_blocks::{QueryBlocks, root_of};
+use made_data::Made;
 use query_scoping::scopes;
 use sd_value::{NoMemory, Str};
 use serve_run::{NO_TALLY, serve_pages};
@@ -21,16 +19,6 @@ pub use site_pages::PageSource;
 use site_pages::SitePages;
 use std::alloc::Global;
 use wire::Wire;
-
-// The function of the term for `/`.
-fn root_function(alloc: Global, scopes: &QueryBlocks) -> Result<Option<Str>, NoMemory>
-    ensures { IfOk result (λ root. root ≡ root_of_bodies (scope_of scopes.now).bodies) }
-{
-    match root_of(scopes) {
-        Some(root) => Ok(Some(root.copy(alloc)?)),
-        None => Ok(None),
-    }
-}
 
 // A copy of the text, if there is one.
 fn copied(alloc: Global, text: &Option<Str>) -> Result<Option<Str>, NoMemory>
@@ -62,17 +50,19 @@ fn serve_inputs<W: Wire>(
     ensures err { OnErr result (wire.new ≡ wire.old) }
 {
     let scopes = scopes(alloc, &inputs.query)?;
-    let root = root_function(alloc, &scopes)?;
     let hosts = copied(alloc, &limits.hosts)?;
-    let origin = Origin { root, hosts };
+    let origin = Origin { hosts };
     let room = CacheRoom {
         pages: u64::from(limits.cache),
         bytes: limits.cache_bytes,
     };
     let pages = SitePages::of(
         alloc,
-        inputs.graph,
-        &inputs.first,
+        Made {
+            graph: inputs.graph,
+            stated: inputs.stated,
+        },
+        &inputs.making,
         &scopes,
         &inputs.templates,
         source,
@@ -90,10 +80,10 @@ fn serve_inputs<W: Wire>(
 }
 
 /// Serves the pages of the site of the query over the data to the connections of a wire, within the limits. The data that an
-/// accepted data text makes replace all data; with a first query these are the graph of its site over the data that the
-/// text states. Without one an edit for whose graph there is room is made of the current data, and the kept pages that it
-/// can touch are dropped, and no others. Any other text changes nothing. Whatever the pages are made from, their bytes are
-/// the same. It never calls `listen` and `watch`.
+/// accepted data text makes replace all data: what it states or, with a first query, the graph of that one's site over it, in
+/// the order of the query's ORDERs. Without a first query an edit for whose graphs there is room is made of what is stated.
+/// Where there are no ORDERs exactly the kept pages are dropped that it can touch, and else all. Any other text changes nothing.
+/// Whatever the pages are made from, their bytes are the same. It never calls `listen` and `watch`.
 pub fn serve_site<W: Wire>(
     alloc: Global,
     inputs: SiteInputs,

@@ -10,24 +10,26 @@ use Rattle.site_spec.specs.Paths.{paths_from}
 
 -- ---- links
 
--- a link with its number, the path of its block, and the block's conditions behind those of all blocks round it
+-- a link with its number, the path of its block, and the block's conditions and NONEs after those of all blocks round it
 pub record SchemaEdge : Type 0 where
   pub number : ℕ
   pub path : List ℕ
   pub conditions : List Condition
+  pub nones : List (List Condition)
   pub link : Link
 
 -- the links of one block, the first with this number
-abbrev pub edges_in : ℕ → List ℕ → List Condition → List Link → List SchemaEdge
-edges_in number path conditions [] = []
-edges_in number path conditions (k ∷ links) =
-    record { number = number; path = path; conditions = conditions; link = k }
-    ∷ edges_in (suc number) path conditions links
+abbrev pub edges_in : ℕ → List ℕ → List Condition → List (List Condition) → List Link
+    → List SchemaEdge
+edges_in number path conditions nones [] = []
+edges_in number path conditions nones (k ∷ links) =
+    record { number = number; path = path; conditions = conditions; nones = nones; link = k }
+    ∷ edges_in (suc number) path conditions nones links
 
 -- the links of blocks with these paths, the first with this number
 abbrev pub edges_from : ℕ → List (List ℕ) → List Body → List SchemaEdge
 edges_from number (path ∷ paths) (b ∷ bodies) =
-    edges_in number path b.conditions b.links
+    edges_in number path b.conditions b.nones b.links
     ++ edges_from (number + length b.links) paths bodies
 edges_from number paths bodies = []
 

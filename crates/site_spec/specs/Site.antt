@@ -58,7 +58,7 @@ pub record Joins (s : Assignment) (k : Link) (u : Value) (label : Label) (v : Va
 
 -- the chain of a block: its variables, and its conditions
 abbrev pub chain : Scope → Body → Chain
-chain q b = chain_of q.version b.conditions
+chain q b = chain_of q.version b.conditions b.nones
 
 -- the terms in a target: one, or none
 abbrev pub target_terms : Target → List SkolemTerm

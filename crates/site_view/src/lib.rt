@@ -7,15 +7,17 @@ ghost use Rattle.sd_value.specs.declared.Value.TheVariants.{Page};
 ghost use Rattle.sd_value.specs.Order.{value_cmp};
 ghost use Rattle.sd_value.specs.Ascending.{ListsExactly};
 ghost use Rattle.tmpl.specs.Body.{TemplateFile};
+ghost use Rattle.tmpl.specs.Reading.{file_of};
 ghost use Rattle.page_spec.specs.Site.{Site, MayStart};
 ghost use Rattle.page_spec.specs.Pieces.{HasTemplate};
 ghost use Rattle.page_spec.specs.Page.{IsOutcome};
 ghost use Rattle.page_spec.specs.Question.{Question, MayKeep, in_site as asks_term, out as asks_out};
 ghost use Rattle.page_spec.specs.Question.{collected as asks_collected, template as asks_template};
 
-use page_spec::Outcome;
+use page_spec::{Outcome, PageName};
 use sd_value::{NoMemory, Str, Term, Value};
 use std::alloc::Global;
+use tmpl::Templates;
 
 /// A view of a site. Its meaning is a site and a file of templates, both given by a part that never changes, and the
 /// list of the questions that it keeps. `Own` is what an implementation keeps true of itself from call to call.
@@ -90,11 +92,15 @@ pub trait Pages {
 
     ghost Own: { Self → Type 0 };
 
-    /// What asking for the page of the term gives.
-    fn page(&mut self, alloc: Global, term: &Term) -> Result<Outcome, NoMemory>
+    /// What asking for the page gives.
+    fn page(&mut self, alloc: Global, page: &PageName) -> Result<Outcome, NoMemory>
         requires own { Own self.old }
         ensures own { Own self.new }
         ensures fixed { fixed self.new ≡ fixed self.old }
         ensures outcome { IfOk result
-            (λ o. IsOutcome (site (fixed self.old)) (templates (fixed self.old)) term.now o) };
+            (λ o. IsOutcome (site (fixed self.old)) (templates (fixed self.old)) page.now o) };
+
+    /// The templates that make the pages.
+    fn template_file(&self) -> &Templates
+        ensures { file_of result.now ≡ templates (fixed self.now) };
 }

@@ -8,7 +8,8 @@ use Rattle.struql_ast.specs.declared.Operand.{Operand}
 use Rattle.struql_ast.specs.declared.Operand.TheVariants.{Variable, Constant}
 use Rattle.struql_ast.specs.declared.PathStep.{PathStep}
 use Rattle.struql_ast.specs.declared.PathStep.TheVariants.{ArcVariable, Expression}
-use Rattle.struql_ast.specs.declared.Condition.{Condition, Member, Path, Compare, OneOf, Kind, Not'}
+use Rattle.struql_ast.specs.declared.Condition.{Condition, Member, Path, Compare, OneOf, Kind, Not', Gives}
+use Rattle.struql_ast.specs.declared.NoneOf.{NoneOf}
 use Rattle.struql_ast.specs.declared.SkolemTerm.{SkolemTerm as WrittenTerm}
 use Rattle.struql_ast.specs.declared.Aggregate.{Aggregate}
 use Rattle.struql_ast.specs.declared.Aggregate.TheVariants.{Count, Min, Max, Sum}
@@ -39,6 +40,12 @@ condition_of (Compare left op right span) = plain.compare (operand_of left) op (
 condition_of (OneOf operand constants span) = plain.one_of (operand_of operand) constants
 condition_of (Kind test x x_span span) = plain.kind test x
 condition_of (Not' p condition span) = plain.negation (condition_of condition)
+condition_of (Gives computes left sign function f_span args span) =
+    plain.gives computes (operand_of left) sign function (map operand_of args)
+
+-- the conditions of a NONE, without their places
+abbrev pub none_of : NoneOf → List plain.Condition
+none_of n = map condition_of n.conditions.items
 
 -- a term without its place
 abbrev pub term_of : WrittenTerm → plain.SkolemTerm
@@ -77,10 +84,11 @@ collect_of c = record { collection = c.collection; target = target_of c.target }
 abbrev mutual
   -- the block, and these after it
   pub block_onto : Block → Blocks → Blocks
-  block_onto (Block' conditions creates links collects shape inner span) after =
+  block_onto (Block' conditions nones creates links collects shape inner span) after =
       plain.block
       (record {
         conditions = map condition_of conditions.items;
+        nones = map none_of nones.items;
         creates = map term_of creates.items;
         links = map link_of links.items;
         collects = map collect_of collects.items;

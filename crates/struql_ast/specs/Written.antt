@@ -1,16 +1,19 @@
 -- A query as it is written: a plain tree that keeps the places of its parts.
-use Rattle.std.specs.Prelude.{◌≡◌, ℕ, List, [], ◌∷◌, map}
+use Rattle.std.specs.Prelude.{◌≡◌, ℕ, Bool, List, [], ◌∷◌, map}
 use Rattle.std.proofs.Common.{refl, ap, ◌∙◌}
 use Rattle.sd_value.specs.declared.Value.{Value}
 use Rattle.sd_lex.specs.declared.token.Span.{Span}
 use Rattle.rpe.specs.Regex.{Regex}
 use Rattle.rpe.specs.Reading.{regex_of}
+use Rattle.function_spec.specs.declared.Function.{Function}
+use Rattle.query_spec.specs.declared.CallSign.{CallSign}
 use Rattle.query_spec.specs.declared.Op.{Op}
 use Rattle.query_spec.specs.declared.Test.{Test}
 use Rattle.struql_ast.specs.declared.Operand.{Operand}
 use Rattle.struql_ast.specs.declared.PathStep.{PathStep}
 use Rattle.struql_ast.specs.declared.PathStep.TheVariants.{ArcVariable, Expression}
 use Rattle.struql_ast.specs.declared.Condition as declared
+use Rattle.struql_ast.specs.declared.NoneOf as declared_none
 use Rattle.struql_ast.specs.declared.SkolemTerm.{SkolemTerm}
 use Rattle.struql_ast.specs.declared.Aggregate.{Aggregate}
 use Rattle.struql_ast.specs.declared.Target as declared_target
@@ -45,6 +48,14 @@ pub data Condition : Type 0 where
   kind : Test → (x : Name) → (x_span span : Span) → Condition
   -- `not(..)`
   negation : Condition → Span → Condition
+  -- `t = f(..)` and `t in f(..)`
+  gives : (computes : Bool) → Operand → CallSign → Function → (f_span : Span) → List Operand
+      → (span : Span) → Condition
+
+-- a NONE with its places
+pub record NoneOf : Type 0 where
+  pub conditions : List Condition
+  pub span : Span
 
 -- a function's name and its arguments, with its place
 pub record Term : Type 0 where
@@ -74,6 +85,7 @@ pub record Collect : Type 0 where
 -- the clauses of a block
 pub record Clauses : Type 0 where
   pub conditions : List Condition
+  pub nones : List NoneOf
   pub creates : List Term
   pub links : List Link
   pub collects : List Collect
@@ -105,6 +117,12 @@ condition_written (declared.Compare left op right span) = compare left op right 
 condition_written (declared.OneOf operand constants span) = one_of operand constants span
 condition_written (declared.Kind test x x_span span) = kind test x x_span span
 condition_written (declared.Not' p c span) = negation (condition_written c) span
+condition_written (declared.Gives computes left sign function f_span args span) =
+    gives computes left sign function f_span args span
+
+-- a NONE
+abbrev pub none_written : declared_none.NoneOf → NoneOf
+none_written n = record { conditions = map condition_written n.conditions.items; span = n.span }
 
 -- a term
 abbrev pub term_written : SkolemTerm → Term
@@ -136,10 +154,11 @@ collect_written c = record {
 abbrev mutual
   -- the block, and these after it
   pub block_written : Block → Blocks → Blocks
-  block_written (Block' conditions creates links collects shape inner span) after =
+  block_written (Block' conditions nones creates links collects shape inner span) after =
       block
       (record {
         conditions = map condition_written conditions.items;
+        nones = map none_written nones.items;
         creates = map term_written creates.items;
         links = map link_written links.items;
         collects = map collect_written collects.items;
@@ -161,9 +180,10 @@ blocks_written (b ∷ bs) = block_written b (blocks_written bs)
 
 -- its clauses
 abbrev pub block_clauses : Block → Clauses
-block_clauses (Block' conditions creates links collects shape inner span) =
+block_clauses (Block' conditions nones creates links collects shape inner span) =
     record {
       conditions = map condition_written conditions.items;
+      nones = map none_written nones.items;
       creates = map term_written creates.items;
       links = map link_written links.items;
       collects = map collect_written collects.items;
@@ -171,11 +191,11 @@ block_clauses (Block' conditions creates links collects shape inner span) =
 
 -- the blocks in it
 abbrev pub block_inner : Block → Blocks
-block_inner (Block' conditions creates links collects shape inner span) = row_written inner
+block_inner (Block' conditions nones creates links collects shape inner span) = row_written inner
 
 -- its place
 abbrev pub block_span : Block → Span
-block_span (Block' conditions creates links collects shape inner span) = span
+block_span (Block' conditions nones creates links collects shape inner span) = span
 
 -- the blocks in a block, as the list that its vector holds
 pub row_written-items : (n : _) (row : Row_of-Block n)
@@ -193,6 +213,7 @@ inner_made r =
 -- and its clauses
 pub clauses_made : (r : _) → block_clauses (roll-Block r) ≡ record {
   conditions = map condition_written r.conditions.items;
+  nones = map none_written r.nones.items;
   creates = map term_written r.creates.items;
   links = map link_written r.links.items;
   collects = map collect_written r.collects.items;

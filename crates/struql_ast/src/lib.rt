@@ -2,9 +2,10 @@
 #![tactic(auto)]
 
 ghost use Rattle.std.specs.Prelude.{◌≡◌, map};
-ghost use Rattle.struql_ast.specs.Reading.{condition_of};
+ghost use Rattle.struql_ast.specs.Reading.{condition_of, none_of};
 
-use query_spec::{Op, Test, Variable};
+use function_spec::Function;
+use query_spec::{CallSign, Op, Test, Variable};
 use rpe::Rpe;
 use sd_lex::Span;
 use sd_value::{Str, Value};
@@ -71,6 +72,44 @@ impl Constants {
     }
 }
 
+/// The arguments of a call.
+#[derive(Debug)]
+pub struct Arguments {
+    items: Vec<Operand>,
+}
+
+// Written out, so that it is proved here once, and not again in each crate that drops one.
+impl Drop for Arguments {
+    fn drop(self) {
+        let Arguments { items: _items } = self;
+    }
+}
+
+impl Model for Arguments {
+    ghost use Rattle.std.specs.Prelude.{List};
+    ghost use Rattle.struql_ast.specs.declared.Operand.{Operand as AnyOperand};
+
+    ghost Value = { List AnyOperand };
+
+    ghost view = { λ a. a.items.items };
+}
+
+impl Arguments {
+    /// The arguments that these operands are.
+    pub fn new(items: Vec<Operand>) -> Arguments
+        ensures { result ≡ items.items }
+    {
+        Arguments { items }
+    }
+
+    /// The operands, in the text's order.
+    pub fn items(&self) -> &[Operand]
+        ensures { result.now ≡ self.now }
+    {
+        self.items.as_slice()
+    }
+}
+
 /// A condition of a WHERE.
 #[derive(Drop)]
 pub enum Condition {
@@ -104,6 +143,32 @@ pub enum Condition {
         span: Span,
     },
     Not(Box<Condition>, Span),
+    /// `t = f(..)` or `t in f(..)`. Where a block round its own mentions the variable, a call computes nothing.
+    Gives {
+        computes: bool,
+        left: Operand,
+        sign: CallSign,
+        function: Function,
+        function_span: Span,
+        args: Arguments,
+        span: Span,
+    },
+}
+
+/// The conditions of a NONE.
+pub struct NoneOf {
+    pub conditions: Vec<Condition>,
+    pub span: Span,
+}
+
+// Written out, so that it is proved here once, and not again in each crate that drops one.
+impl Drop for NoneOf {
+    fn drop(self) {
+        let NoneOf {
+            conditions: _conditions,
+            span: _span,
+        } = self;
+    }
 }
 
 /// A function's name and its arguments.
@@ -226,6 +291,7 @@ impl Drop for Collect {
 #[derive(Drop)]
 pub struct Block {
     pub conditions: Vec<Condition>,
+    pub nones: Vec<NoneOf>,
     pub creates: Vec<SkolemTerm>,
     pub links: Vec<Link>,
     pub collects: Vec<Collect>,
@@ -253,12 +319,13 @@ impl Drop for Query {
     }
 }
 
-/// Variables, and the conditions that they have to meet: a block's own after those of the blocks
-/// round it.
+/// Variables, the conditions that they have to meet, and the NONEs: a block's own after those of the
+/// blocks round it.
 pub struct Chain {
     version: u8,
     variables: Vec<Variable>,
     conditions: Vec<Condition>,
+    nones: Vec<NoneOf>,
 }
 
 // Written out, so that it is proved here once, and not again in each crate that drops one.
@@ -268,6 +335,7 @@ impl Drop for Chain {
             version: _version,
             variables: _variables,
             conditions: _conditions,
+            nones: _nones,
         } = self;
     }
 }
@@ -281,26 +349,34 @@ impl Model for Chain {
 
     ghost coded = { chain_code };
 
-    ghost use Rattle.struql_ast.specs.Reading.{condition_of};
+    ghost use Rattle.struql_ast.specs.Reading.{condition_of, none_of};
 
     ghost view = { λ c. record {
       version = c.version;
       variables = c.variables.items;
       conditions = map condition_of c.conditions.items;
+      nones = map none_of c.nones.items;
     } };
 }
 
 impl Chain {
-    /// The chain of these conditions, with these variables.
-    pub fn new(version: u8, variables: Vec<Variable>, conditions: Vec<Condition>) -> Chain
+    /// The chain of these conditions and NONEs, with these variables.
+    pub fn new(
+        version: u8,
+        variables: Vec<Variable>,
+        conditions: Vec<Condition>,
+        nones: Vec<NoneOf>,
+    ) -> Chain
         ensures version { result.version ≡ version }
         ensures variables { result.variables ≡ variables.items }
         ensures conditions { result.conditions ≡ map condition_of conditions.items }
+        ensures nones { result.nones ≡ map none_of nones.items }
     {
         Chain {
             version,
             variables,
             conditions,
+            nones,
         }
     }
 
@@ -323,5 +399,12 @@ impl Chain {
         ensures { map condition_of result.now ≡ self.now.conditions }
     {
         self.conditions.as_slice()
+    }
+
+    /// The NONEs, those of outer blocks first.
+    pub fn nones(&self) -> &[NoneOf]
+        ensures { map none_of result.now ≡ self.now.nones }
+    {
+        self.nones.as_slice()
     }
 }

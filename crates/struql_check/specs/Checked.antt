@@ -10,7 +10,7 @@ use Rattle.struql_check.specs.declared.faults.Check.{Check}
 use Rattle.struql_check.specs.declared.refusal.CheckRefusal.{CheckRefusal}
 use Rattle.struql_check.specs.declared.refusal.CheckRefusal.TheVariants.{TooManyPositions, Unbound, NeverCreated}
 use Rattle.struql_check.specs.declared.refusal.CheckRefusal.TheVariants.{Arity, LinkFromData, ArcAsNode, NotLabel}
-use Rattle.struql_check.specs.declared.refusal.CheckRefusal.TheVariants.{Reserved, TooManyVariables, NoMemory}
+use Rattle.struql_check.specs.declared.refusal.CheckRefusal.TheVariants.{Reserved, TooManyVariables, LocalToNone, NotYetKnown, BadPattern, NoMemory}
 use Rattle.struql_check.specs.Faults.{Faulty, IsLeastFault, IsFaultless}
 
 -- the refusal of a check at a place
@@ -24,6 +24,9 @@ told checks.ArcAsNode at = ArcAsNode at
 told checks.NotLabel at = NotLabel at
 told checks.Reserved at = Reserved at
 told checks.TooManyVariables at = TooManyVariables at
+told checks.LocalToNone at = LocalToNone at
+told checks.NotYetKnown at = NotYetKnown at
+told checks.BadPattern at = BadPattern at
 
 -- the refusal reports the query's first fault
 abbrev pub ReportsFirst : written.Query → CheckRefusal → Type 0

@@ -5,17 +5,31 @@ use Rattle.std.specs.Prelude.{codes}
 use Rattle.std.specs.List.{list_any}
 use Rattle.std.specs.Str.{bytes_eq}
 use Rattle.rpe.specs.Language.{positions}
-use Rattle.query_spec.specs.Mentions.{same_name, first_mentions}
-use Rattle.struql_ast.specs.Written.{Name, expression, Condition, path, negation, Target, plain, made, summed, Link, Collect, Query}
+use Rattle.query_spec.specs.Mentions.{same_name}
+use Rattle.std.specs.Bool.{MatchBool}
+use Rattle.std.specs.Prelude.{[], filter}
+use Rattle.sd_value.specs.declared.Value.{Value}
+use Rattle.value_texts.specs.declared.TextTest.TheVariants.{Matches}
+use Rattle.value_texts.specs.Texts.{IsPattern}
+use Rattle.function_spec.specs.declared.Function.{Function}
+use Rattle.function_names.specs.Names.{Takes}
+use Rattle.query_spec.specs.declared.Op.TheVariants.{Texts}
+use Rattle.query_spec.specs.declared.Sort.{Sort}
+use Rattle.query_spec.specs.declared.Sort.TheVariants.{Node, Computed}
+use Rattle.query_spec.specs.declared.Sort.TheVariants as sorts
+use Rattle.struql_ast.specs.declared.Operand.{Operand}
+use Rattle.struql_ast.specs.declared.Operand.TheVariants.{Variable, Constant}
+use Rattle.struql_ast.specs.Written.{Name, expression, Condition, member, path, compare, one_of, kind, negation, gives, NoneOf, Target, plain, made, summed, Link, Collect, Query}
 use Rattle.struql_check.specs.declared.faults.Check.{Check}
 use Rattle.struql_check.specs.declared.faults.Check.TheVariants.{TooManyPositions, Unbound, NeverCreated, Arity}
 use Rattle.struql_check.specs.declared.faults.Check.TheVariants.{LinkFromData, ArcAsNode, NotLabel, Reserved}
-use Rattle.struql_check.specs.declared.faults.Check.TheVariants.{TooManyVariables}
+use Rattle.struql_check.specs.declared.faults.Check.TheVariants.{TooManyVariables, LocalToNone, NotYetKnown, BadPattern}
+use Rattle.struql_check.specs.declared.names.Known.{Known}
 use Rattle.struql_check.specs.declared.mentions.VariableUse.{VariableUse}
 use Rattle.struql_check.specs.declared.mentions.Role.{Role}
-use Rattle.struql_check.specs.declared.mentions.Role.TheVariants.{Arc, End, Label, Other}
+use Rattle.struql_check.specs.declared.mentions.Role.TheVariants.{Arc, End, Label, Given, Other}
 use Rattle.struql_check.specs.declared.terms.SeenTerm.{SeenTerm}
-use Rattle.struql_check.specs.Scope.{is_in, sort_of, ScopedBlock, scoped, chain_mentions, block_mentions, terms}
+use Rattle.struql_check.specs.Scope.{sort_of, sort_within, is_nothing, same_place, called, uses, ScopedBlock, scoped, chain_mentions, terms}
 
 -- one of the items has the fault
 abbrev pub SomeIn : {X : Type 0} → (X → Check → ℕ → Type 0) → List X → Check → ℕ → Type 0
@@ -28,25 +42,58 @@ abbrev pub IsLabelRole : Role → Type 0
 IsLabelRole Arc = Unit {0}
 IsLabelRole End = ⊥
 IsLabelRole Label = Unit {0}
+IsLabelRole Given = ⊥
 IsLabelRole Other = ⊥
 
 -- Unbound: no condition of the chain mentions the variable. ArcAsNode: an arc variable as an end of a path or as the
 -- variable of `C(x)`. NotLabel: a node variable between arrows in a condition, or as a link's label.
-abbrev pub RoleFault : Option Bool → Role → ℕ → Check → ℕ → Type 0
-RoleFault is_arc role here Unbound at = (is_arc ≡ None) × (at ≡ here)
-RoleFault is_arc role here ArcAsNode at = (role ≡ End) × (is_arc ≡ Some true) × (at ≡ here)
-RoleFault is_arc role here NotLabel at = IsLabelRole role × (is_arc ≡ Some false) × (at ≡ here)
-RoleFault is_arc role here check at = ⊥
+abbrev pub RoleFault : Option Sort → Role → ℕ → Check → ℕ → Type 0
+RoleFault sort role here Unbound at = (sort ≡ None) × (at ≡ here)
+RoleFault sort role here ArcAsNode at = (role ≡ End) × (sort ≡ Some sorts.Arc) × (at ≡ here)
+RoleFault sort role here NotLabel at =
+    IsLabelRole role × ((sort ≡ Some Node) ⊎ (sort ≡ Some Computed)) × (at ≡ here)
+RoleFault sort role here check at = ⊥
 
--- the fault of one mention, given the blocks round it
-abbrev pub MentionFault : List (List VariableUse) → VariableUse → Check → ℕ → Type 0
-MentionFault round x check at = RoleFault (sort_of round x.name) x.role x.at check at
+-- a mention outside of every NONE of a name that is local to one
+abbrev pub is_local_outside : List Name → VariableUse → Bool
+is_local_outside locals x = is_nothing x.site.none && list_any (same_name x.name) locals
+
+-- the sort of a variable where it is mentioned: a local one's is that of its NONE alone
+abbrev pub sort_at : List (List VariableUse) → List VariableUse → VariableUse → Option Sort
+sort_at levels ms x =
+    if x.site.local then sort_within ms x.site.none x.name else sort_of levels x.name
+
+-- LocalToNone: a mention outside of every NONE of a name that is local to one
+abbrev pub LocalFault : ℕ → Check → ℕ → Type 0
+LocalFault here LocalToNone at = at ≡ here
+LocalFault here check at = ⊥
+
+-- the fault of one of these mentions, given the blocks round it and which names are local to NONEs
+abbrev pub MentionFault : List (List VariableUse) → List Name → List VariableUse → VariableUse
+    → Check → ℕ → Type 0
+MentionFault levels locals ms x check at =
+    MatchBool (is_local_outside locals x) (LocalFault x.at check at)
+    (RoleFault (sort_at levels ms x) x.role x.at check at)
+
+-- what a mention counts as: a variable of the chain, or an own one of the NONE that begins there
+abbrev pub known_of : VariableUse → Known
+known_of m = record { name = m.name; none = if m.site.local then m.site.none else None }
+
+-- the two count as one variable
+abbrev pub same_known : Known → Known → Bool
+same_known k l = same_name k.name l.name && same_place k.none l.none
+
+-- each once, where it first is
+abbrev pub first_known : List Known → List Known
+first_known [] = []
+first_known (k ∷ ks) = k ∷ filter (λ l. not (same_known k l)) (first_known ks)
 
 -- the place where a list of mentions first has a variable more than 32
 abbrev pub IsPast : List VariableUse → ℕ → Type 0
 IsPast ms at =
     (before : List VariableUse) × (x : VariableUse) × (after : List VariableUse) × (ms ≡ before ++ x ∷ after)
-    × (is_in before x.name ≡ false) × (length (first_mentions (map (λ m. m.name) before)) ≡ 32)
+    × (list_any (same_known (known_of x)) (map known_of before) ≡ false)
+    × (length (first_known (map known_of before)) ≡ 32)
     × (at ≡ x.at)
 
 -- TooManyVariables: the first mention of the 33rd variable of a chain
@@ -128,12 +175,89 @@ CollectFault version o Reserved at =
     (is_reserved version o.collection ≡ true) × (at ≡ o.span.start)
 CollectFault version o check at = ⊥
 
+-- ---- calls
+
+-- what is known of the variables where a call is: the sort of each, and which of them are left of calls before it
+pub record Place : Type 0 where
+  pub sort : Name → Option Sort
+  pub known : List Name
+
+-- NotYetKnown: an argument to which calls give values, and none before this one does
+abbrev pub ArgumentFault : Place → Operand → Check → ℕ → Type 0
+ArgumentFault p (Variable x span) NotYetKnown at =
+    (p.sort x ≡ Some Computed) × (list_any (same_name x) p.known ≡ false) × (at ≡ span.start)
+ArgumentFault p operand check at = ⊥
+
+-- Arity: another number of arguments than the function takes
+abbrev pub CallArity : Function → List Operand → ℕ → Check → ℕ → Type 0
+CallArity f args here Arity at = (Takes f (length args) → ⊥) × (at ≡ here)
+CallArity f args here check at = ⊥
+
+-- BadPattern: no constant that is a regular expression
+abbrev pub PatternFault : Operand → Check → ℕ → Type 0
+PatternFault (Variable x span) BadPattern at = at ≡ span.start
+PatternFault (Constant v span) BadPattern at = (IsPattern v → ⊥) × (at ≡ span.start)
+PatternFault operand check at = ⊥
+
+-- the fault of a condition's call or pattern
+abbrev pub CallFault : Place → Condition → Check → ℕ → Type 0
+CallFault p (gives computes t sign f f_span args span) check at =
+    CallArity f args f_span.start check at ⊎ SomeIn (ArgumentFault p) args check at
+CallFault p (compare t (Texts Matches) u span) check at = PatternFault u check at
+CallFault p (negation c span) check at = CallFault p c check at
+CallFault p c check at = ⊥
+
+-- the faults of conditions one after another, each with what the calls before it give
+abbrev pub CallFaults : (Name → Option Sort) → List Name → List Condition → Check → ℕ → Type 0
+CallFaults sort known [] check at = ⊥
+CallFaults sort known (c ∷ cs) check at =
+    CallFault (record { sort = sort; known = known }) c check at
+    ⊎ CallFaults sort (known ++ called c) cs check at
+
+-- the first of the two that there is
+abbrev pub or_else_sort : Option Sort → Option Sort → Option Sort
+or_else_sort None other = other
+or_else_sort (Some s) other = Some s
+
+-- the sort of a variable in a NONE
+abbrev pub sort_in : List (List VariableUse) → List VariableUse → NoneOf → Name → Option Sort
+sort_in levels ms n x = or_else_sort (sort_of levels x) (sort_within ms (Some n.span.start) x)
+
+-- where a condition begins
+abbrev pub condition_start : Condition → ℕ
+condition_start (member c x x_span span) = span.start
+condition_start (path t s u span) = span.start
+condition_start (compare t o u span) = span.start
+condition_start (one_of t vs span) = span.start
+condition_start (kind k x x_span span) = span.start
+condition_start (negation c span) = span.start
+condition_start (gives computes t sign f f_span args span) = span.start
+
+-- the conditions that begin before the place
+abbrev pub begun_before : ℕ → List Condition → List Condition
+begun_before at cs = filter (λ c. nat_lt (condition_start c) at) cs
+
+-- the faults of the calls of a block and of its NONEs
+abbrev pub BlockCalls : ScopedBlock → Check → ℕ → Type 0
+BlockCalls b check at =
+    CallFaults (sort_of b.here.levels) b.round.given b.clauses.conditions check at
+    ⊎ SomeIn (λ n. CallFaults (sort_in b.here.levels b.own n)
+    (b.round.given ++ flat_map called (begun_before n.span.start b.clauses.conditions))
+    n.conditions) b.clauses.nones check at
+
+-- the fault of a call, a pattern or an expression of a block
+abbrev pub WhereFault : ScopedBlock → Check → ℕ → Type 0
+WhereFault b check at =
+    BlockCalls b check at ⊎ SomeIn ConditionFault b.clauses.conditions check at
+    ⊎ SomeIn (λ n. SomeIn ConditionFault n.conditions) b.clauses.nones check at
+
 -- a fault of a block, given the version and the blocks round it
 abbrev pub BlockFault : ℕ → ScopedBlock → Check → ℕ → Type 0
 BlockFault version b check at =
-    SomeIn (MentionFault b.round) (block_mentions b.clauses) check at
+    SomeIn (MentionFault b.here.levels b.round.locals b.own) b.own check at
+    ⊎ SomeIn (MentionFault b.here.levels b.here.locals (uses b.clauses)) (uses b.clauses) check at
     ⊎ ChainFault (chain_mentions b) check at
-    ⊎ SomeIn ConditionFault b.clauses.conditions check at
+    ⊎ WhereFault b check at
     ⊎ SomeIn LinkFault b.clauses.links check at
     ⊎ SomeIn (CollectFault version) b.clauses.collects check at
 
@@ -181,6 +305,9 @@ number ArcAsNode = 65
 number NotLabel = 66
 number Reserved = 67
 number TooManyVariables = 68
+number LocalToNone = 151
+number NotYetKnown = 152
+number BadPattern = 153
 
 -- the fault at the least place, and there the one of the least number
 pub record IsLeastFault (P : Check → ℕ → Type 0) (check : Check) (at : ℕ) : Type 0 where

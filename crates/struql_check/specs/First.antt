@@ -4,7 +4,9 @@ use Rattle.struql_check.specs.declared.faults.Check.{Check}
 use Rattle.struql_check.specs.declared.faults.Check.TheVariants.{Unbound, ArcAsNode, NotLabel}
 use Rattle.struql_check.specs.declared.faults.Fault.{Fault}
 use Rattle.struql_check.specs.declared.mentions.Role.{Role}
-use Rattle.struql_check.specs.declared.mentions.Role.TheVariants.{Arc, End, Label, Other}
+use Rattle.struql_check.specs.declared.mentions.Role.TheVariants.{Arc, End, Label, Given, Other}
+use Rattle.query_spec.specs.declared.Sort.{Sort}
+use Rattle.query_spec.specs.declared.Sort.TheVariants as sorts
 use Rattle.struql_check.specs.Faults.{number, IsLeastFault}
 
 -- the first fault with P, or none where nothing has P
@@ -29,13 +31,24 @@ fault_at None at = None
 fault_at (Some check) at = Some (record { check = check; at = at })
 
 -- the check that fails where a variable of the sort has the role
-abbrev pub broken_role : Option Bool → Role → Option Check
+abbrev pub broken_of_arc : Bool → Role → Option Check
+broken_of_arc true Arc = None
+broken_of_arc true End = Some ArcAsNode
+broken_of_arc true Label = None
+broken_of_arc true Given = None
+broken_of_arc true Other = None
+broken_of_arc false Arc = Some NotLabel
+broken_of_arc false End = None
+broken_of_arc false Label = Some NotLabel
+broken_of_arc false Given = None
+broken_of_arc false Other = None
+
+-- whether the sort is that of labels
+abbrev pub is_arc : Sort → Bool
+is_arc sorts.Arc = true
+is_arc s = false
+
+-- the same by the variable's sort, if a condition of the chain mentions it
+abbrev pub broken_role : Option Sort → Role → Option Check
 broken_role None role = Some Unbound
-broken_role (Some true) Arc = None
-broken_role (Some true) End = Some ArcAsNode
-broken_role (Some true) Label = None
-broken_role (Some true) Other = None
-broken_role (Some false) Arc = Some NotLabel
-broken_role (Some false) End = None
-broken_role (Some false) Label = Some NotLabel
-broken_role (Some false) Other = None
+broken_role (Some s) role = broken_of_arc (is_arc s) role

@@ -2,29 +2,41 @@
 use Rattle.std.specs.Prelude.{◌≡◌, ℕ, ◌≤◌, Bool, false, not, nat_eq, if◌then◌else◌, List, [], ◌∷◌, ◌++◌, length, map, Option, Some, None}
 use Rattle.query_spec.specs.Mentions.{first_mentions}
 use Rattle.std.specs.List.{flat_map}
-use Rattle.struql_ast.specs.declared.Block.{Block}
-use Rattle.struql_ast.specs.Written.{Name, block_clauses}
+use Rattle.struql_ast.specs.Written.{Name}
 use Rattle.struql_check.specs.declared.mentions.VariableUse.{VariableUse}
 use Rattle.struql_check.specs.declared.names.Names.{Names}
 use Rattle.struql_check.specs.declared.names.Names.TheVariants.{Few, Many}
-use Rattle.struql_check.specs.Scope.{mentions}
+use Rattle.struql_check.specs.Scope.{sort_of, sort_within, Round as PlainRound}
+use Rattle.struql_check.specs.declared.calls.Place.{Place}
+use Rattle.struql_check.specs.Faults.{or_else_sort, Place as PlainPlace}
+use Rattle.struql_check.specs.declared.walk.Round.{Round}
+use Rattle.struql_check.specs.declared.names.Known.{Known}
 use Rattle.struql_check.specs.declared.faults.Check.{Check}
 use Rattle.struql_check.specs.declared.faults.Check.TheVariants.{NeverCreated, Arity, Reserved}
 use Rattle.struql_check.specs.declared.terms.SeenTerm.{SeenTerm}
-use Rattle.struql_check.specs.Faults.{IsPast, is_created, first_arity}
+use Rattle.struql_check.specs.Faults.{first_known, known_of, IsPast, is_created, first_arity}
 
--- the names of mentions, each once
-abbrev pub names_of : List VariableUse → List Name
-names_of ms = first_mentions (map (λ m. m.name) ms)
+-- the variables of mentions, each once: a NONE's own apart from any other of the name
+abbrev pub names_of : List VariableUse → List Known
+names_of ms = first_known (map known_of ms)
 
 -- the variables by first mention, as long as these are no more than 32, and then where the 33rd is
 abbrev pub AreNames : List VariableUse → Names → Type 0
 AreNames ms (Few known) = (known.items ≡ names_of ms) × (length known.items ≤ 32)
 AreNames ms (Many at) = IsPast ms at
 
--- the mentions of the conditions round a block and of its own, block by block
-abbrev pub here : List (List VariableUse) → Block → List (List VariableUse)
-here round b = round ++ flat_map mentions (block_clauses b).conditions ∷ []
+-- what the walk keeps of the blocks round a place
+pub record IsRound (plain : PlainRound) (kept : Round) : Type 0 where
+  pub names : AreNames (flat_map (λ ms. ms) plain.levels) kept.names
+  pub locals : kept.locals.items ≡ plain.locals
+  pub given : kept.given.items ≡ plain.given
+
+-- what is known where a call is
+abbrev pub place_of : Place → List Name → PlainPlace
+place_of p known = record {
+  sort = λ x. or_else_sort (sort_of p.levels.now x) (sort_within p.mentions.now p.none x);
+  known = known;
+}
 
 -- the functions that are in a CREATE
 abbrev pub AreCreated : List SeenTerm → (Name → Bool) → Type 0

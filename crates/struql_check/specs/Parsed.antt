@@ -5,7 +5,7 @@ use Rattle.sd_value.specs.declared.Datum.TheVariants.{Int, Text}
 use Rattle.sd_value.specs.declared.Value.{Value}
 use Rattle.sd_value.specs.declared.Value.TheVariants.{Data}
 use Rattle.query_spec.specs.Query.{Operand, variable, constant, Condition, member, path, compare, one_of, kind}
-use Rattle.query_spec.specs.Query.{negation, SkolemTerm, Target, plain, made, summed, Link, Body, Blocks, no_blocks, block}
+use Rattle.query_spec.specs.Query.{negation, gives, SkolemTerm, Target, plain, made, summed, Link, Body, Blocks, no_blocks, block}
 use Rattle.query_spec.specs.Query.{Query}
 use Rattle.query_spec.specs.Mentions.{IsFlat, IsVersion}
 
@@ -22,6 +22,8 @@ condition_constants (compare t o u) = operand_constants t ++ operand_constants u
 condition_constants (one_of t vs) = operand_constants t ++ vs
 condition_constants (kind k x) = []
 condition_constants (negation c) = condition_constants c
+condition_constants (gives computes t sign f args) =
+    operand_constants t ++ flat_map operand_constants args
 
 -- the constants among a term's arguments
 abbrev pub term_constants : SkolemTerm → List Value
@@ -40,7 +42,8 @@ link_constants k = target_constants k.source ++ target_constants k.target
 -- all constants of a block
 abbrev pub constants : Body → List Value
 constants b =
-    flat_map condition_constants b.conditions ++ flat_map term_constants b.creates
+    flat_map condition_constants b.conditions
+    ++ flat_map (flat_map condition_constants) b.nones ++ flat_map term_constants b.creates
     ++ flat_map link_constants b.links ++ flat_map (λ o. target_constants o.target) b.collects
 
 -- the term that a target is
@@ -75,6 +78,7 @@ IsWritable v = ⊥
 pub record IsParsed (q : Query) : Type 0 where
   pub version : IsVersion q.version
   pub flat : All (λ b. All IsFlat b.conditions) (bodies q)
+  pub flat_nones : All (λ b. All (All IsFlat) b.nones) (bodies q)
   pub writable : All (λ b. All IsWritable (constants b)) (bodies q)
   pub few_blocks : length (bodies q) < 2 ^ 32
   pub few_conditions : length (flat_map (λ b. b.conditions) (bodies q)) < 2 ^ 32

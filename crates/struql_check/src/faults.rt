@@ -16,6 +16,9 @@ pub enum Check {
     NotLabel,
     Reserved,
     TooManyVariables,
+    LocalToNone,
+    NotYetKnown,
+    BadPattern,
 }
 
 /// A check that fails, and where.
@@ -38,6 +41,9 @@ fn number(check: Check) -> u8
         Check::NotLabel => 66,
         Check::Reserved => 67,
         Check::TooManyVariables => 68,
+        Check::LocalToNone => 151,
+        Check::NotYetKnown => 152,
+        Check::BadPattern => 153,
     }
 }
 

@@ -14,8 +14,10 @@ use std::alloc::Global;
 use std::marker::Model;
 use struql_ast::Query;
 
+mod calls;
 mod faults;
 mod functions;
+mod gathered;
 mod mentions;
 mod names;
 mod passes;
@@ -27,14 +29,13 @@ mod walk;
 use faults::earlier;
 pub use faults::{Check, Fault};
 use functions::first_of_terms;
-pub use mentions::{Role, VariableUse};
-pub use names::Names;
-use names::no_names;
+pub use mentions::{Role, Site, VariableUse};
+pub use names::{Known, Names};
 pub use refusal::CheckRefusal;
 use refusal::refusal_of;
 pub use terms::SeenTerm;
 use terms::push_terms;
-use walk::first_of_blocks;
+use walk::{first_of_blocks, nothing_round};
 
 /// A query that passed all checks.
 pub struct Checked {
@@ -82,8 +83,8 @@ fn first_fault(alloc: Global, query: &Query) -> Result<Option<Fault>, NoMemory>
     ensures { IfOk result (λ first. IsFirst (Faulty (query_written query.now)) first) }
 {
     let mut levels = Vec::new(alloc);
-    let names = no_names(alloc);
-    let by_block = first_of_blocks(alloc, query.version, &query.blocks, &mut levels, &names)?;
+    let round = nothing_round(alloc);
+    let by_block = first_of_blocks(alloc, query.version, &query.blocks, &mut levels, &round)?;
     let mut terms = Vec::new(alloc);
     push_terms(alloc, &mut terms, &query.blocks)?;
     let by_term = first_of_terms(alloc, query.version, &terms)?;

@@ -10,7 +10,7 @@ ghost use Rattle.struql_check.specs.declared.mentions.Role.TheVariants.{Other};
 use sd_value::{NoMemory, Str};
 use std::alloc::Global;
 use struql_ast::{
-    Aggregate, Collect, Condition, Link, LinkLabel, Operand, PathStep, SkolemTerm, Target,
+    Aggregate, Collect, Condition, Link, LinkLabel, NoneOf, Operand, PathStep, SkolemTerm, Target,
 };
 
 /// The part that a variable plays where it is.
@@ -22,6 +22,8 @@ pub enum Role {
     End,
     /// As a link's label.
     Label,
+    /// Left of a call.
+    Given,
     /// Anywhere else.
     Other,
 }
@@ -33,7 +35,26 @@ pub struct VariableUse {
     pub role: Role,
     /// The place of its first byte.
     pub at: u64,
+    pub site: Site,
 }
+
+/// What is round a variable.
+#[derive(Clone, Copy)]
+pub struct Site {
+    /// It is in `not`.
+    pub negated: bool,
+    /// Where the NONE begins in which it is.
+    pub none: Option<u64>,
+    /// It is a local variable of this NONE.
+    pub local: bool,
+}
+
+// Outside of `not` and of each NONE.
+const OUTSIDE: Site = Site {
+    negated: false,
+    none: None,
+    local: false,
+};
 
 fn push_mention(
     alloc: Global,
@@ -41,12 +62,18 @@ fn push_mention(
     name: &Str,
     role: Role,
     at: u64,
+    site: Site,
 ) -> Result<(), NoMemory>
     ensures { IfOk result (λ _. found.new.items
-        ≡ found.old.items ++ record { name = name.now; role = role; at = at } ∷ []) }
+        ≡ found.old.items ++ record { name = name.now; role = role; at = at; site = site } ∷ []) }
 {
     let name = name.copy(alloc)?;
-    found.push(VariableUse { name, role, at })?;
+    found.push(VariableUse {
+        name,
+        role,
+        at,
+        site,
+    })?;
     Ok(())
 }
 
@@ -55,23 +82,31 @@ fn push_operand(
     found: &mut Vec<VariableUse>,
     operand: &Operand,
     role: Role,
+    site: Site,
 ) -> Result<(), NoMemory>
     ensures { IfOk result (λ _. found.new.items
-        ≡ found.old.items ++ operand_mentions role operand.now) }
+        ≡ found.old.items ++ operand_mentions role site operand.now) }
 {
     match operand {
-        Operand::Variable(name, span) => push_mention(alloc, found, name, role, span.start),
+        Operand::Variable(name, span) => {
+            push_mention(alloc, found, name, role, span.start, site)
+        }
         Operand::Constant(_, _) => Ok(()),
     }
 }
 
-fn push_step(alloc: Global, found: &mut Vec<VariableUse>, step: &PathStep) -> Result<(), NoMemory>
+fn push_step(
+    alloc: Global,
+    found: &mut Vec<VariableUse>,
+    step: &PathStep,
+    site: Site,
+) -> Result<(), NoMemory>
     ensures { IfOk result (λ _. found.new.items
-        ≡ found.old.items ++ step_mentions (step_written step.now)) }
+        ≡ found.old.items ++ step_mentions site (step_written step.now)) }
 {
     match step {
         PathStep::ArcVariable(name, span) => {
-            push_mention(alloc, found, name, Role::Arc, span.start)
+            push_mention(alloc, found, name, Role::Arc, span.start, site)
         }
         PathStep::Expression(_, _) => Ok(()),
     }
@@ -81,47 +116,106 @@ fn push_condition(
     alloc: Global,
     found: &mut Vec<VariableUse>,
     condition: &Condition,
+    site: Site,
 ) -> Result<(), NoMemory>
     ensures { IfOk result (λ _. found.new.items
-        ≡ found.old.items ++ mentions (condition_written condition.now)) }
+        ≡ found.old.items ++ mentions site (condition_written condition.now)) }
 {
     match condition {
         Condition::Member {
             variable,
             variable_span,
             ..
-        } => push_mention(alloc, found, variable, Role::End, variable_span.start),
+        } => push_mention(alloc, found, variable, Role::End, variable_span.start, site),
         Condition::Path { from, step, to, .. } => {
-            push_operand(alloc, found, from, Role::End)?;
-            push_step(alloc, found, step)?;
-            push_operand(alloc, found, to, Role::End)
+            push_operand(alloc, found, from, Role::End, site)?;
+            push_step(alloc, found, step, site)?;
+            push_operand(alloc, found, to, Role::End, site)
         }
         Condition::Compare { left, right, .. } => {
-            push_operand(alloc, found, left, Role::Other)?;
-            push_operand(alloc, found, right, Role::Other)
+            push_operand(alloc, found, left, Role::Other, site)?;
+            push_operand(alloc, found, right, Role::Other, site)
         }
-        Condition::OneOf { operand, .. } => push_operand(alloc, found, operand, Role::Other),
+        Condition::OneOf { operand, .. } => push_operand(alloc, found, operand, Role::Other, site),
         Condition::Kind {
             variable,
             variable_span,
             ..
-        } => push_mention(alloc, found, variable, Role::Other, variable_span.start),
-        Condition::Not(inner, _) => push_condition(alloc, found, inner),
+        } => push_mention(
+            alloc,
+            found,
+            variable,
+            Role::Other,
+            variable_span.start,
+            site,
+        ),
+        Condition::Not(inner, _) => {
+            let site = Site {
+                negated: true,
+                ..site
+            };
+            push_condition(alloc, found, inner, site)
+        }
+        Condition::Gives { left, args, .. } => {
+            push_operand(alloc, found, left, Role::Given, site)?;
+            push_operands(alloc, found, args.items(), site)
+        }
     }
 }
 
-/// The variables of conditions, in the text's order.
+fn push_operands(
+    alloc: Global,
+    found: &mut Vec<VariableUse>,
+    operands: &[Operand],
+    site: Site,
+) -> Result<(), NoMemory>
+    ensures { IfOk result (λ _. found.new.items
+        ≡ found.old.items ++ flat_map (operand_mentions Other site) operands.now) }
+{
+    for operand in operands {
+        push_operand(alloc, found, operand, Role::Other, site)?;
+    }
+    Ok(())
+}
+
+fn push_conditions(
+    alloc: Global,
+    found: &mut Vec<VariableUse>,
+    conditions: &[Condition],
+    site: Site,
+) -> Result<(), NoMemory>
+    ensures { IfOk result (λ _. found.new.items
+        ≡ found.old.items ++ flat_map (mentions site) (map condition_written conditions.now)) }
+{
+    for condition in conditions {
+        push_condition(alloc, found, condition, site)?;
+    }
+    Ok(())
+}
+
+/// The variables of conditions outside of every NONE, in the text's order.
 pub(crate) fn mentions_of(
     alloc: Global,
     conditions: &[Condition],
 ) -> Result<Vec<VariableUse>, NoMemory>
-    ensures { IfOk result (λ ms. ms.items ≡ flat_map mentions
+    ensures { IfOk result (λ ms. ms.items ≡ flat_map (mentions outside)
         (map condition_written conditions.now)) }
 {
     let mut found = Vec::new(alloc);
-    for condition in conditions {
-        push_condition(alloc, &mut found, condition)?;
-    }
+    push_conditions(alloc, &mut found, conditions, OUTSIDE)?;
+    Ok(found)
+}
+
+/// The variables of a NONE, in the text's order. None of them is marked as local.
+pub(crate) fn mentions_within(alloc: Global, none: &NoneOf) -> Result<Vec<VariableUse>, NoMemory>
+    ensures { IfOk result (λ ms. ms.items ≡ none_mentions (none_written none.now)) }
+{
+    let site = Site {
+        none: Some(none.span.start),
+        ..OUTSIDE
+    };
+    let mut found = Vec::new(alloc);
+    push_conditions(alloc, &mut found, &none.conditions, site)?;
     Ok(found)
 }
 
@@ -130,7 +224,7 @@ fn push_term(alloc: Global, found: &mut Vec<VariableUse>, term: &SkolemTerm) -> 
         ≡ found.old.items ++ term_mentions (term_written term.now)) }
 {
     for operand in &term.args {
-        push_operand(alloc, found, operand, Role::Other)?;
+        push_operand(alloc, found, operand, Role::Other, OUTSIDE)?;
     }
     Ok(())
 }
@@ -145,18 +239,22 @@ fn push_aggregate(
 {
     match aggregate {
         Aggregate::Count(name, span) => {
-            push_mention(alloc, found, name, Role::Other, span.start)
+            push_mention(alloc, found, name, Role::Other, span.start, OUTSIDE)
         }
-        Aggregate::Min(name, span) => push_mention(alloc, found, name, Role::Other, span.start),
-        Aggregate::Max(name, span) => push_mention(alloc, found, name, Role::Other, span.start),
+        Aggregate::Min(name, span) => {
+            push_mention(alloc, found, name, Role::Other, span.start, OUTSIDE)
+        }
+        Aggregate::Max(name, span) => {
+            push_mention(alloc, found, name, Role::Other, span.start, OUTSIDE)
+        }
         Aggregate::Sum {
             value,
             value_span,
             key,
             key_span,
         } => {
-            push_mention(alloc, found, value, Role::Other, value_span.start)?;
-            push_mention(alloc, found, key, Role::Other, key_span.start)
+            push_mention(alloc, found, value, Role::Other, value_span.start, OUTSIDE)?;
+            push_mention(alloc, found, key, Role::Other, key_span.start, OUTSIDE)
         }
     }
 }
@@ -166,7 +264,7 @@ fn push_target(alloc: Global, found: &mut Vec<VariableUse>, target: &Target) -> 
         ≡ found.old.items ++ target_mentions (target_written target.now)) }
 {
     match target {
-        Target::Plain(operand) => push_operand(alloc, found, operand, Role::Other),
+        Target::Plain(operand) => push_operand(alloc, found, operand, Role::Other, OUTSIDE),
         Target::Made(term) => push_term(alloc, found, term),
         Target::Summed(aggregate, _) => push_aggregate(alloc, found, aggregate),
     }
@@ -182,7 +280,7 @@ fn push_label(
     match label {
         LinkLabel::Quoted(_) => Ok(()),
         LinkLabel::Variable(name, span) => {
-            push_mention(alloc, found, name, Role::Label, span.start)
+            push_mention(alloc, found, name, Role::Label, span.start, OUTSIDE)
         }
     }
 }

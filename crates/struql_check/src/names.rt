@@ -3,6 +3,7 @@
 ghost use Rattle.std.specs.Prelude.{◌≡◌, ◌++◌, ◌∷◌, [], List, IfOk};
 ghost use Rattle.std.specs.List.{list_any};
 ghost use Rattle.query_spec.specs.Mentions.{same_name};
+ghost use Rattle.struql_check.specs.Faults.{known_of, same_known};
 ghost use Rattle.struql_check.specs.Known.{AreNames};
 ghost use Rattle.struql_check.specs.declared.mentions.VariableUse.{VariableUse};
 
@@ -13,27 +14,51 @@ use std::alloc::Global;
 /// The most variables that a chain may have.
 const MOST_VARIABLES: usize = 32;
 
+/// A variable of a chain, or a local one of the NONE that begins there.
+#[derive(Drop)]
+pub struct Known {
+    name: Str,
+    none: Option<u64>,
+}
+
 /// The variables of a chain.
 #[derive(Drop)]
 pub enum Names {
     /// All of them, by first mention.
-    Few(Vec<Str>),
+    Few(Vec<Known>),
     /// Where one more than the limit is.
     Many(u64),
 }
 
-fn is_known(known: &[Str], name: &Str) -> bool
-    ensures { result ≡ list_any (same_name name.now) known.now }
+// Where the NONE begins to which the mentioned variable is local.
+fn none_of(mention: &VariableUse) -> Option<u64>
+    ensures { result ≡ (known_of mention.now).none }
 {
-    known.iter().any(|other| name == other)
+    if mention.site.local {
+        mention.site.none
+    } else {
+        None
+    }
 }
 
-fn copied(alloc: Global, names: &[Str]) -> Result<Vec<Str>, NoMemory>
+fn is_known(known: &[Known], mention: &VariableUse) -> bool
+    ensures { result ≡ list_any (same_known (known_of mention.now)) known.now }
+{
+    let none = none_of(mention);
+    known
+        .iter()
+        .any(|other| mention.name == other.name && other.none == none)
+}
+
+fn copied(alloc: Global, names: &[Known]) -> Result<Vec<Known>, NoMemory>
     ensures { IfOk result (λ copy. copy.items ≡ names.now) }
 {
     let mut copy = Vec::new(alloc);
-    for name in names {
-        copy.push(name.copy(alloc)?)?;
+    for known in names {
+        copy.push(Known {
+            name: known.name.copy(alloc)?,
+            none: known.none,
+        })?;
     }
     Ok(copy)
 }
@@ -44,10 +69,13 @@ fn one_more(alloc: Global, names: Names, mention: &VariableUse) -> Result<Names,
 {
     match names {
         Names::Few(mut known) => {
-            if is_known(&known, &mention.name) {
+            if is_known(&known, mention) {
                 Ok(Names::Few(known))
             } else if known.len() < MOST_VARIABLES {
-                known.push(mention.name.copy(alloc)?)?;
+                known.push(Known {
+                    name: mention.name.copy(alloc)?,
+                    none: none_of(mention),
+                })?;
                 Ok(Names::Few(known))
             } else {
                 Ok(Names::Many(mention.at))

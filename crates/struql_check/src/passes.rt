@@ -6,21 +6,24 @@ ghost use Rattle.rpe.specs.Language.{positions};
 ghost use Rattle.rpe.specs.Reading.{regex_of};
 ghost use Rattle.struql_ast.specs.Written.{condition_written, link_written, collect_written, target_written};
 ghost use Rattle.struql_check.specs.Scope.{sort_of};
-ghost use Rattle.struql_check.specs.Faults.{SomeIn, MentionFault, ChainFault, ConditionFault, LinkFault};
+ghost use Rattle.struql_check.specs.Faults.{SomeIn, is_local_outside, sort_at, MentionFault, ChainFault, ConditionFault, LinkFault};
 ghost use Rattle.struql_check.specs.Faults.{CollectFault, large_place, is_plain, is_test, is_index};
 ghost use Rattle.struql_check.specs.Faults.{is_text_test, is_text_function, is_number_function, is_list_function};
 ghost use Rattle.struql_check.specs.Faults.{is_kept, is_reserved};
-ghost use Rattle.struql_check.specs.First.{IsFirst, fault_at, broken_role};
+ghost use Rattle.struql_check.specs.First.{IsFirst, fault_at, broken_of_arc, broken_role};
+ghost use Rattle.std.specs.List.{list_any};
+ghost use Rattle.query_spec.specs.Mentions.{same_name};
 ghost use Rattle.struql_check.specs.Known.{AreNames};
 ghost use Rattle.struql_check.specs.declared.mentions.VariableUse.{VariableUse as Seen};
 
 use crate::faults::{Check, Fault, earlier};
 use crate::mentions::{Role, VariableUse};
 use crate::names::Names;
-use crate::scope::{Level, sort_of};
+use crate::scope::{Level, sort_of, sort_within};
+use query_spec::Sort;
 use rpe::Rpe;
 use sd_value::Str;
-use struql_ast::{Collect, Condition, Link, PathStep, Target};
+use struql_ast::{Collect, Condition, Link, NoneOf, PathStep, Target};
 
 /// The most positions that an expression may have.
 const MOST_POSITIONS: u16 = 256;
@@ -36,46 +39,82 @@ pub(crate) fn fault_at(check: Option<Check>, at: u64) -> Option<Fault>
 
 /// The check that fails where an arc variable, or else a node variable, has this part.
 fn broken_sort(is_arc: bool, role: Role) -> Option<Check>
-    ensures { result ≡ broken_role (Some is_arc) role }
+    ensures { result ≡ broken_of_arc is_arc role }
 {
     if is_arc {
         match role {
             Role::End => Some(Check::ArcAsNode),
-            Role::Arc | Role::Label | Role::Other => None,
+            Role::Arc | Role::Label | Role::Given | Role::Other => None,
         }
     } else {
         match role {
             Role::Arc | Role::Label => Some(Check::NotLabel),
-            Role::End | Role::Other => None,
+            Role::End | Role::Given | Role::Other => None,
         }
     }
 }
 
 /// The check that fails where a variable of this sort has this part.
-fn broken_role(is_arc: Option<bool>, role: Role) -> Option<Check>
-    ensures { result ≡ broken_role is_arc role }
+fn broken_role(sort: Option<Sort>, role: Role) -> Option<Check>
+    ensures { result ≡ broken_role sort role }
 {
-    match is_arc {
+    match sort {
         None => Some(Check::Unbound),
-        Some(is_arc) => broken_sort(is_arc, role),
+        Some(sort) => broken_sort(matches!(sort, Sort::Arc), role),
     }
 }
 
-fn mention_fault(levels: &[Level], mention: &VariableUse) -> Option<Fault>
-    ensures { IsFirst (MentionFault levels.now mention.now) result }
+fn is_among(names: &[Str], name: &Str) -> bool
+    ensures { result ≡ list_any (same_name name.now) names.now }
 {
-    let is_arc = sort_of(levels, &mention.name);
-    let check = broken_role(is_arc, mention.role);
+    names.iter().any(|other| name == other)
+}
+
+// Whether a mention outside of every NONE is of a variable that is local to one.
+fn is_local_outside(locals: &[Str], mention: &VariableUse) -> bool
+    ensures { result ≡ is_local_outside locals.now mention.now }
+{
+    mention.site.none.is_none() && is_among(locals, &mention.name)
+}
+
+// The sort of the variable where it is mentioned: a local one's is that of its NONE alone.
+fn sort_at(levels: &[Level], mentions: &[VariableUse], mention: &VariableUse) -> Option<Sort>
+    ensures { result ≡ sort_at levels.now mentions.now mention.now }
+{
+    if mention.site.local {
+        sort_within(mentions, mention.site.none, &mention.name)
+    } else {
+        sort_of(levels, &mention.name)
+    }
+}
+
+fn mention_fault(
+    levels: &[Level],
+    locals: &[Str],
+    mentions: &[VariableUse],
+    mention: &VariableUse,
+) -> Option<Fault>
+    ensures { IsFirst (MentionFault levels.now locals.now mentions.now mention.now) result }
+{
+    if is_local_outside(locals, mention) {
+        return fault_at(Some(Check::LocalToNone), mention.at);
+    }
+    let check = broken_role(sort_at(levels, mentions, mention), mention.role);
     fault_at(check, mention.at)
 }
 
-/// The first fault of these mentions, under the conditions of all levels.
-pub(crate) fn first_of_mentions(levels: &[Level], mentions: &[VariableUse]) -> Option<Fault>
-    ensures { IsFirst (SomeIn (MentionFault levels.now) mentions.now) result }
+/// The first fault of these mentions, under the conditions of all levels, where these names are local to NONEs.
+pub(crate) fn first_of_mentions(
+    levels: &[Level],
+    locals: &[Str],
+    mentions: &[VariableUse],
+) -> Option<Fault>
+    ensures { IsFirst (SomeIn (MentionFault levels.now locals.now mentions.now) mentions.now)
+        result }
 {
     let mut first = None;
     for mention in mentions {
-        first = earlier(first, mention_fault(levels, mention));
+        first = earlier(first, mention_fault(levels, locals, mentions, mention));
     }
     first
 }
@@ -132,6 +171,18 @@ pub(crate) fn first_of_conditions(conditions: &[Condition]) -> Option<Fault>
     let mut first = None;
     for condition in conditions {
         first = earlier(first, condition_fault(condition));
+    }
+    first
+}
+
+/// The first fault of the expressions in these NONEs.
+pub(crate) fn first_of_nones(nones: &[NoneOf]) -> Option<Fault>
+    ensures { IsFirst (SomeIn (λ n. SomeIn ConditionFault n.conditions)
+        (map none_written nones.now)) result }
+{
+    let mut first = None;
+    for none in nones {
+        first = earlier(first, first_of_conditions(&none.conditions));
     }
     first
 }

@@ -27,6 +27,12 @@ pub enum CheckRefusal {
     Reserved(u64),
     /// This variable is the chain's 33rd.
     TooManyVariables(u64),
+    /// This variable is local to a NONE, and the mention is outside of it.
+    LocalToNone(u64),
+    /// Calls alone give this argument its values, and none before this one does.
+    NotYetKnown(u64),
+    /// No constant that is a regular expression is here.
+    BadPattern(u64),
     NoMemory,
 }
 
@@ -52,5 +58,8 @@ pub(crate) fn refusal_of(fault: Fault) -> CheckRefusal
         Check::NotLabel => CheckRefusal::NotLabel(fault.at),
         Check::Reserved => CheckRefusal::Reserved(fault.at),
         Check::TooManyVariables => CheckRefusal::TooManyVariables(fault.at),
+        Check::LocalToNone => CheckRefusal::LocalToNone(fault.at),
+        Check::NotYetKnown => CheckRefusal::NotYetKnown(fault.at),
+        Check::BadPattern => CheckRefusal::BadPattern(fault.at),
     }
 }

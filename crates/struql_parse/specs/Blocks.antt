@@ -1,9 +1,9 @@
 -- The grammar of blocks and of whole queries.
 --
---   query := [ "STRUQL" version ] "INPUT" name { item } "OUTPUT" name
+--   query := [ "STRUQL" version ] "INPUT" name { order } { item } "OUTPUT" name
 --   item  := clause | "{" body "}"
 --   body  := [ where ] [ create ] [ link ] [ collect ] { "{" body "}" }
---   where := "WHERE" cond { "," cond }      create  := "CREATE" term { "," term }
+--   where := "WHERE" item { "," item }      create  := "CREATE" term { "," term }
 --   link  := "LINK" link { "," link }       collect := "COLLECT" coll { "," coll }
 --
 -- At the top of a query clauses are in braces or bare. A bare clause begins a block without braces, and what comes next
@@ -14,17 +14,20 @@ use Rattle.sd_lex.specs.declared.token.Span.{Span}
 use Rattle.sd_lex.specs.declared.token.Token.{Token}
 use Rattle.sd_lex.specs.declared.token.Sign.TheVariants as signs
 use Rattle.struql_ast.specs.Written as tree
-use Rattle.struql_ast.specs.Written.{Condition, Term, Link, Collect, Clauses, Blocks, no_blocks, block, Query}
+use Rattle.struql_ast.specs.Written.{Condition, Term, Link, Collect, Clauses, Blocks, no_blocks, block}
 use Rattle.grammar.specs.Grammar.{nothing, one, ◌>>=◌, ◌>>◌, either, iterated, guarded, never}
 use Rattle.struql_text.specs.declared.keyword.Keyword.{Keyword}
 use Rattle.struql_text.specs.declared.keyword.Keyword.TheVariants as words
 use Rattle.struql_text.specs.Terminals.{from_to, version_value, other_version_value, head_value}
 use Rattle.struql_text.specs.Expression.{sign, keyword, Counted, expression_within, expression_spelled}
-use Rattle.struql_text.specs.Grammar.{listed, name, term, link, collect, condition}
+use Rattle.struql_orders.specs.Grammar.{orders}
+use Rattle.struql_orders.specs.Ordered.{OrderedQuery}
+use Rattle.struql_text.specs.Grammar.{listed, name, term, link, collect, where_item}
+use Rattle.struql_text.specs.Where.{WhereItem, holds, none, conditions_in, nones_in}
 
 -- no clause
 abbrev pub empty_clauses : Clauses
-empty_clauses = record { conditions = []; creates = []; links = []; collects = [] }
+empty_clauses = record { conditions = []; nones = []; creates = []; links = []; collects = [] }
 
 -- a clause: its word, and its items
 abbrev pub clause : {A : Type 0} → Keyword → (List Token → A → Type 0) → List Token → List A
@@ -65,13 +68,19 @@ module _ (version : ℕ) (expression : List Token → Counted → Type 0) where
   -- a body, by whether there is room for blocks in it and by what they have in them
   abbrev pub body_of : Bool → (List Token → Body → Type 0) → List Token → Body → Type 0
   body_of room inner = do
-    cs ← optional words.Where (condition version expression)
+    cs ← optional words.Where (where_item version expression)
     ts ← optional words.Create (term version)
     ks ← optional words.Link (link version)
     os ← optional words.Collect (collect version)
     bs ← iterated (λ so_far. guarded room (braces inner so_far)) no_blocks
     nothing (record {
-      clauses = record { conditions = cs; creates = ts; links = ks; collects = os };
+      clauses = record {
+        conditions = conditions_in cs;
+        nones = nones_in cs;
+        creates = ts;
+        links = ks;
+        collects = os;
+      };
       blocks = bs;
     })
 
@@ -110,21 +119,22 @@ grouped g = closing g.closed g.bare
 
 -- a clause's items put into its place
 pub data Item : Type 0 where
-  conditions_item : List Condition → Item
+  wheres_item : List WhereItem → Item
   creates_item : List Term → Item
   links_item : List Link → Item
   collects_item : List Collect → Item
 
 -- the number of a clause's sort
 abbrev pub stage_of : Item → ℕ
-stage_of (conditions_item cs) = 1
+stage_of (wheres_item cs) = 1
 stage_of (creates_item ts) = 2
 stage_of (links_item ks) = 3
 stage_of (collects_item os) = 4
 
 -- the clause with these items
 abbrev pub with_item : Clauses → Item → Clauses
-with_item c (conditions_item cs) = record c { conditions = cs }
+with_item c (wheres_item cs) =
+    record c { conditions = conditions_in cs; nones = nones_in cs }
 with_item c (creates_item ts) = record c { creates = ts }
 with_item c (links_item ks) = record c { links = ks }
 with_item c (collects_item os) = record c { collects = os }
@@ -137,6 +147,12 @@ condition_span (tree.compare t o u span) = span
 condition_span (tree.one_of t vs span) = span
 condition_span (tree.kind k x x_span span) = span
 condition_span (tree.negation c span) = span
+condition_span (tree.gives computes t sign f f_span args span) = span
+
+-- the place of an item of a WHERE
+abbrev pub where_span : WhereItem → Span
+where_span (holds c) = condition_span c
+where_span (none n) = n.span
 
 -- the place of the last of them
 abbrev pub last_span : {A : Type 0} → (A → Span) → Span → List A → Span
@@ -145,7 +161,7 @@ last_span span_of place (x ∷ xs) = last_span span_of (span_of x) xs
 
 -- where a clause ends: at its last item, or at its word
 abbrev pub item_end : Span → Item → Span
-item_end place (conditions_item cs) = last_span condition_span place cs
+item_end place (wheres_item cs) = last_span where_span place cs
 item_end place (creates_item ts) = last_span (λ t. t.span) place ts
 item_end place (links_item ks) = last_span (λ k. k.span) place ks
 item_end place (collects_item os) = last_span (λ c. c.span) place os
@@ -224,7 +240,7 @@ top_braces inner g = do
 abbrev pub item_step : ℕ → (List Token → Counted → Type 0)
     → (Groups → List Token → Body → Type 0) → Groups → List Token → Groups → Type 0
 item_step version expression inner g =
-    either (item words.Where conditions_item (condition version expression) g)
+    either (item words.Where wheres_item (where_item version expression) g)
     (either (item words.Create creates_item (term version) g)
     (either (item words.Link links_item (link version) g)
     (either (item words.Collect collects_item (collect version) g)
@@ -246,28 +262,32 @@ head all = either (one head_value >> version all) (nothing 1)
 
 -- a query, by what its expressions are and what is in braces at the top
 abbrev pub query_of : Bool → (List Token → Counted → Type 0)
-    → (ℕ → Groups → List Token → Body → Type 0) → List Token → Query → Type 0
+    → (ℕ → Groups → List Token → Body → Type 0) → List Token → OrderedQuery → Type 0
 query_of all expression inner = do
   n ← head all
   keyword words.Input
   input ← name n
+  os ← orders n
   groups ← iterated (item_step n expression (inner n)) no_groups
   keyword words.Output
   output ← name n
   nothing (record {
-    version = n;
-    input = input.text;
-    blocks = grouped groups;
-    output = output.text;
+    orders = os;
+    query = record {
+      version = n;
+      input = input.text;
+      blocks = grouped groups;
+      output = output.text;
+    };
   })
 
 -- within the limits of this program
-abbrev pub query_within : List Token → Query → Type 0
+abbrev pub query_within : List Token → OrderedQuery → Type 0
 query_within =
     query_of false expression_within (λ version g. body version expression_within (levels g.bare))
 
 -- at all: any version, and blocks as deep as you like
-abbrev pub query_spelled : List Token → Query → Type 0
+abbrev pub query_spelled : List Token → OrderedQuery → Type 0
 query_spelled =
     query_of true expression_spelled
     (λ version g tokens b. (depth : ℕ) × body version expression_spelled depth tokens b)

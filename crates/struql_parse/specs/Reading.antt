@@ -2,15 +2,18 @@
 use Rattle.std.specs.Prelude.{ℕ, zero, suc, Bool, true, false, ◌||◌, List, []}
 use Rattle.sd_lex.specs.declared.token.Token.{Token}
 use Rattle.sd_lex.specs.declared.token.Sign.TheVariants as signs
-use Rattle.struql_ast.specs.Written.{Blocks, no_blocks, Query}
+use Rattle.struql_ast.specs.Written.{Blocks, no_blocks}
 use Rattle.grammar.specs.Reading.{Outcome, Past, ◌>>=◌, ◌>>◌, give, take_one, choose, iterate, guard, finish}
 use Rattle.struql_text.specs.declared.keyword.Keyword.{Keyword}
 use Rattle.struql_text.specs.declared.keyword.Keyword.TheVariants as words
 use Rattle.struql_text.specs.Terminals.{from_to, is_keyword, is_head, head_value, version_value, is_other_version}
 use Rattle.token_reader.specs.Terminals.{is_sign}
-use Rattle.struql_parse.specs.Blocks.{Body, Placed, onto_end, Groups, no_groups, grouped, Item, conditions_item}
+use Rattle.struql_text.specs.Where.{conditions_in, nones_in}
+use Rattle.struql_parse.specs.Blocks.{Body, Placed, onto_end, Groups, no_groups, grouped, Item, wheres_item}
 use Rattle.struql_parse.specs.Blocks.{creates_item, links_item, collects_item, join, nest, levels}
-use Rattle.struql_text.specs.Reading.{read_sign, read_keyword, read_name, read_listed, read_condition, read_term, read_link, read_collect}
+use Rattle.struql_orders.specs.Ordered.{OrderedQuery}
+use Rattle.struql_orders.specs.Reading.{read_orders}
+use Rattle.struql_text.specs.Reading.{read_sign, read_keyword, read_name, read_listed, read_where, read_term, read_link, read_collect}
 
 -- a clause: its word, and its items
 unfoldable pub read_clause : {A : Type 0} → Keyword → (List Token → Outcome Token A) → List Token
@@ -43,13 +46,19 @@ read_blocks room inner =
 unfoldable pub read_body_of : ℕ → Bool → (List Token → Outcome Token Body) → List Token
     → Outcome Token Body
 read_body_of version room inner = do
-  cs ← read_optional words.Where (read_condition version)
+  cs ← read_optional words.Where (read_where version)
   ts ← read_optional words.Create (read_term version)
   ks ← read_optional words.Link (read_link version)
   os ← read_optional words.Collect (read_collect version)
   bs ← read_blocks room inner no_blocks
   give (record {
-    clauses = record { conditions = cs; creates = ts; links = ks; collects = os };
+    clauses = record {
+      conditions = conditions_in cs;
+      nones = nones_in cs;
+      creates = ts;
+      links = ks;
+      collects = os;
+    };
     blocks = bs;
   })
 
@@ -96,7 +105,7 @@ read_top_braces version g = do
 unfoldable pub read_item_step : ℕ → Groups → List Token → Outcome Token Groups
 read_item_step version g =
     choose (is_keyword words.Where)
-    (read_item words.Where conditions_item (read_condition version) g)
+    (read_item words.Where wheres_item (read_where version) g)
     (choose (is_keyword words.Create) (read_item words.Create creates_item (read_term version) g)
     (choose (is_keyword words.Link) (read_item words.Link links_item (read_link version) g)
     (choose (is_keyword words.Collect) (read_item words.Collect collects_item (read_collect version) g)
@@ -118,12 +127,21 @@ unfoldable pub read_head : List Token → Outcome Token ℕ
 read_head = choose is_head (take_one true head_value >> read_version) (give 1)
 
 -- a query
-unfoldable pub read_query : List Token → Outcome Token Query
+unfoldable pub read_query : List Token → Outcome Token OrderedQuery
 read_query = do
   n ← read_head
   read_keyword words.Input
   input ← read_name n
+  os ← read_orders n
   groups ← iterate begins_item (read_item_step n) no_groups
   read_keyword words.Output
   output ← read_name n
-  finish (record { version = n; input = input.text; blocks = grouped groups; output = output.text })
+  finish (record {
+    orders = os;
+    query = record {
+      version = n;
+      input = input.text;
+      blocks = grouped groups;
+      output = output.text;
+    };
+  })

@@ -8,9 +8,10 @@ ghost use Rattle.struql_parse.specs.Found.{body_found, placed_found};
 ghost use Rattle.struql_parse.specs.Reading.{read_blocks, read_body_of, read_below, has_room, read_block};
 
 use crate::listed::clause_at;
+use crate::wheres::{Wheres, wheres_of};
 use sd_lex::{Sign, Token};
 use std::alloc::Global;
-use struql_ast::{Block, Collect, Condition, Link, SkolemTerm};
+use struql_ast::{Block, Collect, Condition, Link, NoneOf, SkolemTerm};
 use struql_text::{Keyword, from_to, sign_at};
 use token_reader::{Halt, has_sign};
 
@@ -18,6 +19,7 @@ use token_reader::{Halt, has_sign};
 #[derive(Drop)]
 pub struct Inner {
     pub conditions: Vec<Condition>,
+    pub nones: Vec<NoneOf>,
     pub creates: Vec<SkolemTerm>,
     pub links: Vec<Link>,
     pub collects: Vec<Collect>,
@@ -36,7 +38,8 @@ pub fn body_at<'a>(
     ensures { Gives (λ x. body_found x.0) (λ x. x.1.now) result
         (read_body_of version (has_room depth) (read_below version depth) tokens.now) }
 {
-    let (conditions, rest) = clause_at(alloc, version, Keyword::Where, tokens)?;
+    let (items, rest) = clause_at(alloc, version, Keyword::Where, tokens)?;
+    let Wheres { conditions, nones } = wheres_of(alloc, items)?;
     let (creates, rest) = clause_at(alloc, version, Keyword::Create, rest)?;
     let (links, rest) = clause_at(alloc, version, Keyword::Link, rest)?;
     let (collects, rest) = clause_at(alloc, version, Keyword::Collect, rest)?;
@@ -44,6 +47,7 @@ pub fn body_at<'a>(
     Ok((
         Inner {
             conditions,
+            nones,
             creates,
             links,
             collects,
@@ -111,6 +115,7 @@ pub fn braces_at<'a>(
     Ok((
         Block {
             conditions: inner.conditions,
+            nones: inner.nones,
             creates: inner.creates,
             links: inner.links,
             collects: inner.collects,

@@ -1,32 +1,33 @@
 //! The items of the four clauses.
 
 ghost use Rattle.struql_ast.specs.Written as tree;
-ghost use Rattle.struql_text.specs.Reading.{read_condition, read_term, read_link, read_collect};
-ghost use Rattle.struql_parse.specs.Keeping.{condition_keeps, term_keeps, link_keeps, collect_keeps};
+ghost use Rattle.struql_text.specs.Where as where_items;
+ghost use Rattle.struql_text.specs.Reading.{read_where, read_term, read_link, read_collect};
+ghost use Rattle.struql_parse.specs.Keeping.{where_keeps, term_keeps, link_keeps, collect_keeps};
 
 use crate::listed::Listed;
 use sd_lex::Token;
 use std::alloc::Global;
-use struql_ast::{Collect, Condition, Link, SkolemTerm};
-use struql_text::{collect_at, condition_at, link_at, term_at};
+use struql_ast::{Collect, Link, SkolemTerm};
+use struql_text::{WhereItem, collect_at, link_at, term_at, where_at};
 use token_reader::Halt;
 
-impl Listed for Condition {
-    ghost Written = { tree.Condition };
+impl Listed for WhereItem {
+    ghost Written = { where_items.WhereItem };
 
-    ghost written = { tree.condition_written };
+    ghost written = { where_items.where_written };
 
-    ghost read = { read_condition };
+    ghost read = { read_where };
 
     fn item_at(
         alloc: Global,
         version: u8,
         tokens: &[Token],
-    ) -> Result<(Condition, &[Token]), Halt<Token>> {
-        condition_at(alloc, version, tokens)
+    ) -> Result<(WhereItem, &[Token]), Halt<Token>> {
+        where_at(alloc, version, tokens)
     }
 
-    ghost keeps = { condition_keeps };
+    ghost keeps = { where_keeps };
 }
 
 impl Listed for SkolemTerm {

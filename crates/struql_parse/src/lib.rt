@@ -7,6 +7,7 @@ mod items;
 mod listed;
 mod query;
 mod refusal;
+mod wheres;
 
 pub use entry::parse;
 pub use refusal::ParseRefusal;

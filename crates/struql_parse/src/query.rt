@@ -2,13 +2,15 @@
 
 ghost use Rattle.std.specs.Prelude.{◌≡◌, IfOk, [], ◌∷◌, map};
 ghost use Rattle.grammar.specs.Reading.{iterate, starts};
-ghost use Rattle.struql_ast.specs.Written.{query_written, blocks_written, no_blocks, condition_written, term_written};
+ghost use Rattle.struql_ast.specs.Written.{blocks_written, no_blocks, condition_written, term_written};
 ghost use Rattle.struql_ast.specs.Written.{link_written, collect_written};
+ghost use Rattle.struql_orders.specs.Ordered.{ordered_written};
 ghost use Rattle.struql_text.specs.Terminals.{is_head, is_other_version};
 ghost use Rattle.struql_parse.specs.Blocks.{onto_end, empty_clauses, no_groups, join as plain_join};
 ghost use Rattle.struql_parse.specs.Blocks.{grouped as plain_grouped, nest as plain_nest};
 ghost use Rattle.struql_parse.specs.Blocks.{with_item as plain_with_item, stage_of as plain_stage_of};
-ghost use Rattle.struql_parse.specs.Blocks.{item_end as plain_item_end, condition_span as plain_condition_span};
+ghost use Rattle.struql_parse.specs.Blocks.{item_end as plain_item_end, condition_span as plain_condition_span, where_span as plain_where_span};
+ghost use Rattle.struql_text.specs.Where.{where_written};
 ghost use Rattle.struql_parse.specs.Blocks.{last_span};
 ghost use Rattle.token_reader.specs.Gives.{Gives, place};
 ghost use Rattle.struql_parse.specs.Found.{body_found, placed_found, groups_found, bare_found, item_found};
@@ -18,11 +20,13 @@ ghost use Rattle.struql_parse.specs.Stated.{States, IsOnly};
 use crate::clauses::{Inner, braces_at};
 use crate::listed::list_at;
 use crate::refusal::ParseRefusal;
+use crate::wheres::{Wheres, wheres_of};
 use sd_lex::{Sign, Span, Token, TokenKind};
 use sd_value::NoMemory;
 use std::alloc::Global;
 use struql_ast::{Block, Collect, Condition, Link, Query, SkolemTerm};
-use struql_text::{Keyword, from_to, has_keyword, keyword_at, name_at};
+use struql_orders::{OrderedQuery, orders_at};
+use struql_text::{Keyword, WhereItem, from_to, has_keyword, keyword_at, name_at};
 use token_reader::{Halt, TextRefusal, has_sign, place_of};
 
 /// A block without braces that is still open.
@@ -44,7 +48,7 @@ pub struct Groups {
 /// The items of a clause.
 #[derive(Drop)]
 pub enum Item {
-    Conditions(Vec<Condition>),
+    Wheres(Vec<WhereItem>),
     Creates(Vec<SkolemTerm>),
     Links(Vec<Link>),
     Collects(Vec<Collect>),
@@ -68,6 +72,7 @@ fn placed(inner: Inner, span: Span) -> Block
 {
     Block {
         conditions: inner.conditions,
+        nones: inner.nones,
         creates: inner.creates,
         links: inner.links,
         collects: inner.collects,
@@ -95,6 +100,7 @@ fn nest(groups: Groups, block: Block) -> Result<Groups, NoMemory>
             } = bare;
             let Inner {
                 conditions,
+                nones,
                 creates,
                 links,
                 collects,
@@ -104,6 +110,7 @@ fn nest(groups: Groups, block: Block) -> Result<Groups, NoMemory>
             let blocks = push_block(blocks, block)?;
             let inner = Inner {
                 conditions,
+                nones,
                 creates,
                 links,
                 collects,
@@ -124,6 +131,7 @@ fn no_clauses(alloc: Global) -> Inner
 {
     Inner {
         conditions: Vec::new(alloc),
+        nones: Vec::new(alloc),
         creates: Vec::new(alloc),
         links: Vec::new(alloc),
         collects: Vec::new(alloc),
@@ -131,26 +139,30 @@ fn no_clauses(alloc: Global) -> Inner
     }
 }
 
-fn with_item(mut inner: Inner, item: Item) -> Inner
-    ensures { body_found result ≡ record {
+fn with_item(alloc: Global, mut inner: Inner, item: Item) -> Result<Inner, NoMemory>
+    ensures { IfOk result (λ r. body_found r ≡ record {
       clauses = plain_with_item (body_found inner).clauses (item_found item);
       blocks = (body_found inner).blocks;
-    } }
+    }) }
 {
     match item {
-        Item::Conditions(conditions) => inner.conditions = conditions,
+        Item::Wheres(items) => {
+            let Wheres { conditions, nones } = wheres_of(alloc, items)?;
+            inner.conditions = conditions;
+            inner.nones = nones;
+        }
         Item::Creates(creates) => inner.creates = creates,
         Item::Links(links) => inner.links = links,
         Item::Collects(collects) => inner.collects = collects,
     }
-    inner
+    Ok(inner)
 }
 
 fn stage_of(item: &Item) -> u32
     ensures { result ≡ plain_stage_of (item_found item.now) }
 {
     match item {
-        Item::Conditions(_) => 1,
+        Item::Wheres(_) => 1,
         Item::Creates(_) => 2,
         Item::Links(_) => 3,
         Item::Collects(_) => 4,
@@ -166,16 +178,26 @@ fn condition_span(condition: &Condition) -> Span
         | Condition::Compare { span, .. }
         | Condition::OneOf { span, .. }
         | Condition::Kind { span, .. }
+        | Condition::Gives { span, .. }
         | Condition::Not(_, span) => *span,
     }
 }
 
-fn last_condition(items: &[Condition], place: Span) -> Span
-    ensures { result ≡ last_span plain_condition_span place (map condition_written items.now) }
+fn where_span(item: &WhereItem) -> Span
+    ensures { result ≡ plain_where_span (where_written item.now) }
+{
+    match item {
+        WhereItem::Condition(condition) => condition_span(condition),
+        WhereItem::NoneOf(none) => none.span,
+    }
+}
+
+fn last_where(items: &[WhereItem], place: Span) -> Span
+    ensures { result ≡ last_span plain_where_span place (map where_written items.now) }
 {
     match items {
         [] => place,
-        [.., last] => condition_span(last),
+        [.., last] => where_span(last),
     }
 }
 
@@ -211,7 +233,7 @@ fn item_end(place: Span, item: &Item) -> Span
     ensures { result ≡ plain_item_end place (item_found item.now) }
 {
     match item {
-        Item::Conditions(items) => last_condition(items.as_slice(), place),
+        Item::Wheres(items) => last_where(items.as_slice(), place),
         Item::Creates(items) => last_term(items.as_slice(), place),
         Item::Links(items) => last_link(items.as_slice(), place),
         Item::Collects(items) => last_collect(items.as_slice(), place),
@@ -229,7 +251,7 @@ fn join(alloc: Global, groups: Groups, place: Span, item: Item) -> Result<Groups
     match bare {
         None => {
             let span = from_to(place, end);
-            let inner = with_item(no_clauses(alloc), item);
+            let inner = with_item(alloc, no_clauses(alloc), item)?;
             let bare = Some(Bare { inner, span, stage });
             Ok(Groups { closed, bare })
         }
@@ -241,13 +263,13 @@ fn join(alloc: Global, groups: Groups, place: Span, item: Item) -> Result<Groups
             } = bare;
             if before < stage {
                 let span = from_to(span, end);
-                let inner = with_item(inner, item);
+                let inner = with_item(alloc, inner, item)?;
                 let bare = Some(Bare { inner, span, stage });
                 Ok(Groups { closed, bare })
             } else {
                 let closed = push_block(closed, placed(inner, span))?;
                 let span = from_to(place, end);
-                let inner = with_item(no_clauses(alloc), item);
+                let inner = with_item(alloc, no_clauses(alloc), item)?;
                 let bare = Some(Bare { inner, span, stage });
                 Ok(Groups { closed, bare })
             }
@@ -286,7 +308,7 @@ fn item_at(
     if has_keyword(tokens, Keyword::Where) {
         let (place, rest) = keyword_at(tokens, Keyword::Where)?;
         let (items, rest) = list_at(alloc, version, rest)?;
-        let groups = join(alloc, groups, place, Item::Conditions(items))?;
+        let groups = join(alloc, groups, place, Item::Wheres(items))?;
         Ok((groups, rest))
     } else if has_keyword(tokens, Keyword::Create) {
         let (place, rest) = keyword_at(tokens, Keyword::Create)?;
@@ -414,31 +436,37 @@ fn head_at(tokens: &[Token]) -> Result<(u8, &[Token]), Halt<Token>>
 }
 
 #[tactic(auto, unfolding(crate::specs::Reading::read_query))]
-fn whole_at(alloc: Global, tokens: &[Token]) -> Result<Query, Halt<Token>>
-    ensures { Gives (λ x. query_written x) (λ _. []) result (read_query tokens.now) }
+fn whole_at(alloc: Global, tokens: &[Token]) -> Result<OrderedQuery, Halt<Token>>
+    ensures { Gives (λ x. ordered_written x) (λ _. []) result (read_query tokens.now) }
 {
     let (version, rest) = head_at(tokens)?;
     let (_, rest) = keyword_at(rest, Keyword::Input)?;
     let (input, rest) = name_at(alloc, version, rest)?;
+    let (orders, rest) = orders_at(alloc, version, rest)?;
     let (groups, rest) = items_at(alloc, version, rest)?;
     let (_, rest) = keyword_at(rest, Keyword::Output)?;
     let (output, rest) = name_at(alloc, version, rest)?;
     match rest {
         [] => {
             let blocks = grouped(groups)?;
-            Ok(Query {
+            let query = Query {
                 version,
                 input: input.text,
                 blocks,
                 output: output.text,
-            })
+            };
+            Ok(OrderedQuery { orders, query })
         }
         [_, ..] => Err(Halt::Expected(rest)),
     }
 }
 
 /// The query that these tokens spell. The text ends at `text_end`.
-pub fn parse_tokens(alloc: Global, tokens: &[Token], text_end: u64) -> Result<Query, ParseRefusal>
+pub fn parse_tokens(
+    alloc: Global,
+    tokens: &[Token],
+    text_end: u64,
+) -> Result<OrderedQuery, ParseRefusal>
     ensures exact { States tokens.now text_end result }
     ensures only { IsOnly tokens.now result }
 {

@@ -1,17 +1,19 @@
 //! Conditions.
 
-ghost use Rattle.std.specs.Prelude.{◌≡◌, ◌++◌, IfOk, ℕ, List, codes};
+ghost use Rattle.std.specs.Prelude.{◌≡◌, ◌++◌, IfOk, ℕ, List, codes, map};
 ghost use Rattle.query_spec.specs.Query.{path, compare};
-ghost use Rattle.struql_ast.specs.Reading.{operand_of, step_of, condition_of};
-ghost use Rattle.struql_print.specs.Texts.{operand_text, step_text, op_text, test_text, text_test_text, pair_text};
+ghost use Rattle.struql_ast.specs.Reading.{operand_of, step_of, condition_of, none_of};
+ghost use Rattle.struql_print.specs.Texts.{operand_text, step_text, op_text, test_text, text_test_text, pair_text, sign_text, call_text, none_text};
 ghost use Rattle.struql_print.specs.Texts.{infix_text, condition_text};
 
 use crate::collections::print_collection;
 use crate::listed::{Print, print_listed};
 use crate::regex::print_regex;
-use query_spec::{Op, Test};
+use function_names::name;
+use function_spec::Function;
+use query_spec::{CallSign, Op, Test};
 use sd_value::{NoMemory, Str};
-use struql_ast::{Condition, Operand, PathStep};
+use struql_ast::{Condition, NoneOf, Operand, PathStep};
 use token_writer::put;
 use value_texts::TextTest;
 
@@ -31,6 +33,7 @@ fn text_test_word(test: TextTest) -> &'static [u8]
         TextTest::Starts => b"starts",
         TextTest::Ends => b"ends",
         TextTest::Has => b"has",
+        TextTest::Matches => b"matches",
     }
 }
 
@@ -143,6 +146,35 @@ fn print_comparison(
     }
 }
 
+fn sign_word(sign: CallSign) -> &'static [u8]
+    ensures { result.now ≡ sign_text sign }
+{
+    match sign {
+        CallSign::Equals => b" = ",
+        CallSign::In => b" in ",
+    }
+}
+
+fn print_call(
+    version: u8,
+    left: &Operand,
+    sign: CallSign,
+    function: Function,
+    args: &[Operand],
+    out: &mut Vec<u8>,
+) -> Result<(), NoMemory>
+    ensures { IfOk result (λ _. out.new.items ≡ out.old.items
+        ++ call_text sign function (operand_text (operand_of left.now))
+        (map (λ a. operand_text (operand_of a)) args.now)) }
+{
+    left.print(version, out)?;
+    put(sign_word(sign), out)?;
+    put(name(function).as_bytes(), out)?;
+    put(b"(", out)?;
+    print_listed(version, args, out)?;
+    put(b")", out)
+}
+
 /// Appends the canonical text of a condition of this version, as `C(x)`, `x -> "a".true* -> y`, `x = 1`,
 /// `x in {1, 2}`, `isInt(x)`, `starts(x, "a")` or `not(C(x))`. After `NoMemory` what `out` holds is not said.
 pub fn print_condition(
@@ -188,6 +220,31 @@ pub fn print_condition(
             print_condition(version, inner, out)?;
             put(b")", out)
         }
+        Condition::Gives {
+            left,
+            sign,
+            function,
+            args,
+            ..
+        } => print_call(version, left, *sign, *function, args.items(), out),
+    }
+}
+
+/// Appends the canonical text of a NONE of this version.
+pub fn print_none(version: u8, none: &NoneOf, out: &mut Vec<u8>) -> Result<(), NoMemory>
+    ensures { IfOk result (λ _. out.new.items
+        ≡ out.old.items ++ none_text version (none_of none.now)) }
+{
+    put(b"NONE(", out)?;
+    print_listed(version, none.conditions.as_slice(), out)?;
+    put(b")", out)
+}
+
+impl Print for NoneOf {
+    ghost text = { λ version n. none_text version (none_of n) };
+
+    fn print(&self, version: u8, out: &mut Vec<u8>) -> Result<(), NoMemory> {
+        print_none(version, self, out)
     }
 }
 

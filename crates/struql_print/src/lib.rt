@@ -4,10 +4,11 @@
 mod collections;
 mod conditions;
 mod listed;
+mod orders;
 mod query;
 mod regex;
 mod terms;
 
-pub use conditions::print_condition;
+pub use conditions::{print_condition, print_none};
 pub use query::print;
 pub use terms::{print_link, print_term};

@@ -29,7 +29,7 @@ pub fn print_listed<T: Print>(version: u8, items: &[T], out: &mut Vec<u8>) -> Re
 }
 
 /// Appends each item's text behind a comma.
-fn print_further<T: Print>(version: u8, items: &[T], out: &mut Vec<u8>) -> Result<(), NoMemory>
+pub fn print_further<T: Print>(version: u8, items: &[T], out: &mut Vec<u8>) -> Result<(), NoMemory>
     ensures { IfOk result (λ _. out.new.items ≡ out.old.items ++ further (map (T.text version) items.now)) }
 {
     for item in items {

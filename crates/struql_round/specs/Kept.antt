@@ -4,7 +4,8 @@ use Rattle.query_spec.specs.Query as plain
 use Rattle.query_spec.specs.Query.{Target, Link, Collect, Body, Blocks, Query}
 use Rattle.struql_ast.specs.Reading.{operand_of, aggregate_of, label_of}
 use Rattle.struql_ast.specs.Written as tree
-use Rattle.struql_round.specs.ShownParts.{condition_kept, term_kept}
+use Rattle.struql_orders.specs.Ordered.{OrderedQuery, Ordered}
+use Rattle.struql_round.specs.ShownParts.{condition_kept, none_kept, term_kept}
 
 abbrev pub target_kept : tree.Target → Target
 target_kept (tree.plain o) = plain.plain (operand_of o)
@@ -24,6 +25,7 @@ collect_kept c = record { collection = c.collection; target = target_kept c.targ
 abbrev pub clauses_kept : tree.Clauses → Body
 clauses_kept c = record {
   conditions = map condition_kept c.conditions;
+  nones = map none_kept c.nones;
   creates = map term_kept c.creates;
   links = map link_kept c.links;
   collects = map collect_kept c.collects;
@@ -41,3 +43,6 @@ query_kept q = record {
   blocks = blocks_kept q.blocks;
   output = q.output;
 }
+
+abbrev pub ordered_kept : OrderedQuery → Ordered
+ordered_kept q = record { orders = q.orders; query = query_kept q.query }

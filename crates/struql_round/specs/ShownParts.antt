@@ -11,7 +11,7 @@ use Rattle.value_texts.specs.declared.TextTest.{TextTest}
 use Rattle.query_spec.specs.declared.Op.{Op}
 use Rattle.query_spec.specs.declared.Op.TheVariants.{Texts}
 use Rattle.query_spec.specs.Query.{Operand, variable, constant, PathStep, arc_variable, expression, Condition, member}
-use Rattle.query_spec.specs.Query.{path, compare, one_of, kind, negation, SkolemTerm}
+use Rattle.query_spec.specs.Query.{path, compare, one_of, kind, negation, gives, SkolemTerm}
 use Rattle.token_reader.specs.Terminals.{is_sign}
 use Rattle.struql_ast.specs.Reading.{operand_of}
 use Rattle.struql_ast.specs.Written as tree
@@ -32,6 +32,11 @@ condition_kept (tree.compare t o u span) = compare (operand_of t) o (operand_of 
 condition_kept (tree.one_of t vs span) = one_of (operand_of t) vs
 condition_kept (tree.kind k x x_span span) = kind k x
 condition_kept (tree.negation c span) = negation (condition_kept c)
+condition_kept (tree.gives computes t sign f f_span args span) =
+    gives computes (operand_of t) sign f (map operand_of args)
+
+abbrev pub none_kept : tree.NoneOf → List Condition
+none_kept n = map condition_kept n.conditions
 
 -- a word that is no keyword
 abbrev pub ShowsName : ℕ → List ℕ → Token → Type 0

@@ -6,10 +6,12 @@
 --   aggregate := ( "count" | "min" | "max" ) "(" name ")" | "sum" "(" name "OF" name ")"   in version 3
 --   coll    := collection "(" ( name | term ) ")"
 --   operand := name | Int | Quoted
---   cond    := plain | "not" "(" plain ")"
+--   where   := cond | "NONE" "(" cond { "," cond } ")"                        (NONE in version 3)
+--   cond    := plain | "not" "(" plain without a call ")"
 --   plain   := collection "(" name ")" | operand "->" step "->" operand
---            | operand op operand | operand "in" "{" const { "," const } "}" | pair
---   pair    := ( "starts" | "ends" | "has" ) "(" operand "," operand ")"        in version 3
+--            | operand op operand | operand "in" "{" const { "," const } "}" | pair | call
+--   call    := operand ( "=" | "in" ) function "(" operand { "," operand } ")"   in version 3
+--   pair    := ( "starts" | "ends" | "has" | "matches" ) "(" operand "," operand ")"        in version 3
 --   step    := name | expression
 --   collection := name | Quoted
 --
@@ -20,6 +22,10 @@ use Rattle.sd_value.specs.declared.Value.TheVariants.{Data}
 use Rattle.sd_lex.specs.declared.token.Span.{Span}
 use Rattle.sd_lex.specs.declared.token.Token.{Token}
 use Rattle.sd_lex.specs.declared.token.Sign.TheVariants as signs
+use Rattle.function_spec.specs.declared.Function.{Function}
+use Rattle.query_spec.specs.declared.CallSign.{CallSign}
+use Rattle.query_spec.specs.declared.CallSign.TheVariants.{Equals, In}
+use Rattle.query_spec.specs.declared.Op.{Op}
 use Rattle.query_spec.specs.declared.Op.TheVariants.{Texts}
 use Rattle.query_spec.specs.declared.Test.{Test}
 use Rattle.value_texts.specs.declared.TextTest.{TextTest}
@@ -28,12 +34,13 @@ use Rattle.struql_ast.specs.declared.Operand.TheVariants.{Variable, Constant}
 use Rattle.struql_ast.specs.declared.Aggregate.{Aggregate}
 use Rattle.struql_ast.specs.declared.Aggregate.TheVariants.{Sum}
 use Rattle.struql_ast.specs.Written as tree
-use Rattle.struql_ast.specs.Written.{Step, Condition, Term, Target, Link, Collect}
+use Rattle.struql_ast.specs.Written.{Step, Condition, NoneOf, Term, Target, Link, Collect}
 use Rattle.grammar.specs.Grammar.{nothing, one, ◌>>=◌, ◌>>◌, either, iterated}
 use Rattle.struql_text.specs.declared.keyword.Keyword.TheVariants as words
 use Rattle.struql_text.specs.declared.keyword.Word.{Word}
 use Rattle.struql_text.specs.Terminals.{from_to, name_value, collection_value, operand_value, operand_span}
-use Rattle.struql_text.specs.Terminals.{aggregate_named, is_sum, constant_value, label_value, op_value, test_of, pair_test}
+use Rattle.struql_text.specs.Terminals.{aggregate_named, is_sum, constant_value, label_value, op_value, test_of, pair_test, called_after, function_value, kept_function}
+use Rattle.struql_text.specs.Where.{WhereItem, holds, none}
 use Rattle.struql_text.specs.Expression.{sign, keyword, Counted}
 
 -- ---- lists
@@ -116,10 +123,9 @@ call_end c x = do
 abbrev pub between : Operand → Operand → Span
 between t u = from_to (operand_span t) (operand_span u)
 
--- `in {..}`, with one constant or more
-abbrev pub membership : Operand → List Token → Condition → Type 0
-membership t = do
-  keyword words.In
+-- `{..}`, with one constant or more
+abbrev pub constants : Operand → List Token → Condition → Type 0
+constants t = do
   sign signs.OpenBrace
   vs ← listed (one constant_value)
   close ← sign signs.CloseBrace
@@ -302,12 +308,59 @@ module _ (version : ℕ) where
   name_call None c = call (test_of c.text) c
   name_call (Some test) c = pair_or_call test c
 
-  -- an operator, and the right side
-  abbrev pub comparison : Operand → List Token → Condition → Type 0
-  comparison t = do
-    o ← one op_value
+  -- the arguments of a call
+  abbrev pub given : Operand → CallSign → Function → Span → List Token → Condition → Type 0
+  given t s f place = do
+    sign signs.OpenParen
+    args ← listed operand
+    close ← sign signs.CloseParen
+    nothing (tree.gives true t s f place args (from_to (operand_span t) close))
+
+  -- a call, if there is a function, or else the comparison
+  abbrev pub call_or : Option Function → Operand → Op → Operand → List Token → Condition → Type 0
+  call_or None t o u = nothing (tree.compare t o u (between t u))
+  call_or (Some f) t o u =
+      either (given t Equals f (operand_span u)) (nothing (tree.compare t o u (between t u)))
+
+  -- an operand, which may call a function if `calls` says so
+  abbrev pub right_side : Bool → Operand → Op → List Token → Condition → Type 0
+  right_side calls t o = do
     u ← operand
-    nothing (tree.compare t o u (between t u))
+    call_or (if calls then called_after version o u else None) t o u
+
+  -- a call of a function whose name is a keyword
+  abbrev pub kept_call : Operand → Op → List Token → Condition → Type 0
+  kept_call t o = do
+    f ← one (kept_function version o)
+    given t Equals f.function f.span
+
+  -- what is after an operator
+  abbrev pub after_op : Bool → Operand → Op → List Token → Condition → Type 0
+  after_op true t o = either (right_side true t o) (kept_call t o)
+  after_op false t o = right_side false t o
+
+  -- an operator, and the right side
+  abbrev pub comparison : Bool → Operand → List Token → Condition → Type 0
+  comparison calls t = do
+    o ← one op_value
+    after_op calls t o
+
+  -- a function's name, and the call
+  abbrev pub each : Operand → List Token → Condition → Type 0
+  each t = do
+    f ← one (function_value version)
+    given t In f.function f.span
+
+  -- what is after `in`
+  abbrev pub after_in : Bool → Operand → List Token → Condition → Type 0
+  after_in true t = either (constants t) (each t)
+  after_in false t = constants t
+
+  -- `in {..}`, or a call
+  abbrev pub membership : Bool → Operand → List Token → Condition → Type 0
+  membership calls t = do
+    keyword words.In
+    after_in calls t
 
   -- an arc variable
   abbrev pub arc_step : List Token → Step → Type 0
@@ -337,36 +390,61 @@ module _ (version : ℕ) (expression : List Token → Counted → Type 0) where
     nothing (tree.path t s u (between t u))
 
   -- behind the operand that begins a condition
-  abbrev pub relation : Operand → List Token → Condition → Type 0
-  relation t = either (path t) (either (membership t) (comparison version t))
+  abbrev pub relation : Bool → Operand → List Token → Condition → Type 0
+  relation calls t = either (path t) (either (membership version calls t) (comparison version calls t))
 
   -- a name may be that of a test or of a collection, a quoted text that of a collection alone
-  abbrev pub behind : Operand → List Token → Condition → Type 0
-  behind (Variable x span) = either (name_call version (pair_test version x) (record {
+  abbrev pub behind : Bool → Operand → List Token → Condition → Type 0
+  behind calls (Variable x span) = either (name_call version (pair_test version x) (record {
     text = x;
     span = span;
-  })) (relation (Variable x span))
-  behind (Constant (Data (datum.Text q)) span) = either (call version None (record {
+  })) (relation calls (Variable x span))
+  behind calls (Constant (Data (datum.Text q)) span) = either (call version None (record {
     text = q;
     span = span;
-  })) (relation (Constant (Data (datum.Text q)) span))
-  behind (Constant v span) = relation (Constant v span)
+  })) (relation calls (Constant (Data (datum.Text q)) span))
+  behind calls (Constant v span) = relation calls (Constant v span)
 
   -- a condition without `not`
-  abbrev pub plain : List Token → Condition → Type 0
-  plain = do
+  abbrev pub plain : Bool → List Token → Condition → Type 0
+  plain calls = do
     t ← operand version
-    behind t
+    behind calls t
 
   -- `not(..)` of a condition without `not`
   abbrev pub negated : List Token → Condition → Type 0
   negated = do
     n ← keyword words.Not
     sign signs.OpenParen
-    c ← plain
+    c ← plain false
     close ← sign signs.CloseParen
     nothing (tree.negation c (from_to n close))
 
   -- a condition of a WHERE
   abbrev pub condition : List Token → Condition → Type 0
-  condition = either negated plain
+  condition = either negated (plain true)
+
+  -- a NONE
+  abbrev pub none_of : List Token → NoneOf → Type 0
+  none_of = do
+    n ← keyword words.NoneOf
+    sign signs.OpenParen
+    cs ← listed condition
+    close ← sign signs.CloseParen
+    nothing (record { conditions = cs; span = from_to n close })
+
+  -- a NONE as an item
+  abbrev pub none_item : List Token → WhereItem → Type 0
+  none_item = do
+    n ← none_of
+    nothing (none n)
+
+  -- a condition as an item
+  abbrev pub condition_item : List Token → WhereItem → Type 0
+  condition_item = do
+    c ← condition
+    nothing (holds c)
+
+  -- an item of a WHERE: in version 3 it may be a NONE
+  abbrev pub where_item : List Token → WhereItem → Type 0
+  where_item = if nat_eq version 3 then either none_item condition_item else condition_item

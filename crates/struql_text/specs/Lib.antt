@@ -4,3 +4,4 @@ pub mod Grammar
 pub mod Reading
 pub mod Found
 pub mod SpelledConditions
+pub mod Where

@@ -1,5 +1,5 @@
 -- Reading the parts of a clause from left to right.
-use Rattle.std.specs.Prelude.{ℕ, zero, suc, ◌+◌, Bool, true, false, List, [], ◌∷◌, ◌++◌, Option, Some, None}
+use Rattle.std.specs.Prelude.{ℕ, zero, suc, ◌+◌, Bool, true, false, nat_eq, if◌then◌else◌, List, [], ◌∷◌, ◌++◌, Option, Some, None}
 use Rattle.sd_value.specs.declared.Datum.TheVariants as datum
 use Rattle.sd_value.specs.declared.Value.TheVariants.{Data}
 use Rattle.sd_lex.specs.declared.token.Span.{Span}
@@ -7,6 +7,10 @@ use Rattle.sd_lex.specs.declared.token.Token.{Token}
 use Rattle.sd_lex.specs.declared.token.Sign.{Sign}
 use Rattle.sd_lex.specs.declared.token.Sign.TheVariants as signs
 use Rattle.rpe.specs.Regex.{empty, seq as seq_of, alt as alt_of, star as star_of}
+use Rattle.function_spec.specs.declared.Function.{Function}
+use Rattle.query_spec.specs.declared.CallSign.{CallSign}
+use Rattle.query_spec.specs.declared.CallSign.TheVariants.{Equals, In}
+use Rattle.query_spec.specs.declared.Op.{Op}
 use Rattle.query_spec.specs.declared.Op.TheVariants.{Texts}
 use Rattle.query_spec.specs.declared.Test.{Test}
 use Rattle.value_texts.specs.declared.TextTest.{TextTest}
@@ -14,13 +18,14 @@ use Rattle.struql_ast.specs.declared.Operand.{Operand}
 use Rattle.struql_ast.specs.declared.Operand.TheVariants.{Variable, Constant}
 use Rattle.struql_ast.specs.declared.Aggregate.TheVariants.{Sum}
 use Rattle.struql_ast.specs.Written as tree
-use Rattle.struql_ast.specs.Written.{Step, Condition, Term, Target, Link, Collect, Blocks, no_blocks, Query}
+use Rattle.struql_ast.specs.Written.{Step, Condition, NoneOf, Term, Target, Link, Collect, Blocks, no_blocks, Query}
 use Rattle.grammar.specs.Reading.{Outcome, Past, ◌>>=◌, ◌>>◌, give, take_one, choose, iterate, guard}
 use Rattle.struql_text.specs.declared.keyword.Keyword.{Keyword}
 use Rattle.struql_text.specs.declared.keyword.Keyword.TheVariants as words
 use Rattle.struql_text.specs.declared.keyword.Word.{Word}
 use Rattle.struql_text.specs.Terminals.{from_to, sign_value, keyword_value, is_keyword, is_name, name_value, collection_value}
-use Rattle.struql_text.specs.Terminals.{is_sum, operand_value, operand_span, constant_value, label_value, op_value, test_of, pair_test}
+use Rattle.struql_text.specs.Terminals.{is_sum, operand_value, operand_span, constant_value, label_value, op_value, test_of, pair_test, called_after, function_next, function_value, kept_function, is_kept_function}
+use Rattle.struql_text.specs.Where.{WhereItem, holds, none}
 use Rattle.token_reader.specs.Terminals.{is_sign}
 use Rattle.struql_text.specs.Expression.{leaf_value, Counted, bounded}
 use Rattle.struql_text.specs.Grammar.{term_of, variable_of, called, target_span, call_with, between}
@@ -157,10 +162,9 @@ read_call_end c x = do
   close ← read_sign signs.CloseParen
   give (call_with None c x close)
 
--- `in {..}`
-unfoldable pub read_membership : Operand → List Token → Outcome Token Condition
-read_membership t = do
-  read_keyword words.In
+-- `{..}`
+unfoldable pub read_constants : Operand → List Token → Outcome Token Condition
+read_constants t = do
   read_sign signs.OpenBrace
   vs ← read_listed (take_one true constant_value)
   close ← read_sign signs.CloseBrace
@@ -368,12 +372,73 @@ module _ (version : ℕ) where
   read_name_call None c = read_call (test_of c.text) c
   read_name_call (Some test) c = read_pair_or_call test c
 
-  -- an operator, and the right side
-  unfoldable pub read_comparison : Operand → List Token → Outcome Token Condition
-  read_comparison t = do
-    o ← take_one true op_value
+  -- the arguments of a call
+  unfoldable pub read_given : Operand → CallSign → Function → Span → List Token
+      → Outcome Token Condition
+  read_given t sign f place = do
+    read_sign signs.OpenParen
+    args ← read_listed read_operand
+    close ← read_sign signs.CloseParen
+    give (tree.gives true t sign f place args (from_to (operand_span t) close))
+
+  -- a call, if there is a function, or else the comparison
+  unfoldable pub read_call_or : Option Function → Operand → Op → Operand → List Token
+      → Outcome Token Condition
+  read_call_or None t o u = give (tree.compare t o u (between t u))
+  read_call_or (Some f) t o u =
+      choose (is_sign signs.OpenParen) (read_given t Equals f (operand_span u))
+      (give (tree.compare t o u (between t u)))
+
+  -- after the operator and the right side
+  unfoldable pub read_compared : Bool → Operand → Op → Operand → List Token
+      → Outcome Token Condition
+  read_compared calls t o u = read_call_or (if calls then called_after version o u else None) t o u
+
+  -- an operand
+  unfoldable pub read_right_side : Bool → Operand → Op → List Token → Outcome Token Condition
+  read_right_side calls t o = do
     u ← read_operand
-    give (tree.compare t o u (between t u))
+    read_compared calls t o u
+
+  -- a call of a function whose name is a keyword
+  unfoldable pub read_kept_call : Operand → Op → List Token → Outcome Token Condition
+  read_kept_call t o = do
+    f ← take_one true (kept_function version o)
+    read_given t Equals f.function f.span
+
+  -- what is after an operator
+  unfoldable pub read_after_op : Bool → Operand → Op → List Token → Outcome Token Condition
+  read_after_op true t o =
+      choose (is_kept_function version o) (read_kept_call t o) (read_right_side true t o)
+  read_after_op false t o = read_right_side false t o
+
+  -- an operator, and the right side
+  unfoldable pub read_comparison : Bool → Operand → List Token → Outcome Token Condition
+  read_comparison calls t = do
+    o ← take_one true op_value
+    read_after_op calls t o
+
+  -- a function's name, and the call
+  unfoldable pub read_each : Operand → Function → List Token → Outcome Token Condition
+  read_each t f = do
+    w ← take_one true (function_value version)
+    read_given t In f w.span
+
+  -- a call, if there is a function, or else constants
+  unfoldable pub read_each_or : Option Function → Operand → List Token → Outcome Token Condition
+  read_each_or None t = read_constants t
+  read_each_or (Some f) t = read_each t f
+
+  -- after `in`
+  unfoldable pub read_in : Bool → Operand → List Token → Outcome Token Condition
+  read_in calls t tokens =
+      read_each_or (if calls then function_next version tokens else None) t tokens
+
+  -- `in {..}`, or a call
+  unfoldable pub read_membership : Bool → Operand → List Token → Outcome Token Condition
+  read_membership calls t = do
+    read_keyword words.In
+    read_in calls t
 
   -- an arc variable
   unfoldable pub read_arc_step : List Token → Outcome Token Step
@@ -395,41 +460,69 @@ module _ (version : ℕ) where
     give (tree.path t s u (between t u))
 
   -- behind the operand that begins a condition
-  unfoldable pub read_relation : Operand → List Token → Outcome Token Condition
-  read_relation t =
+  unfoldable pub read_relation : Bool → Operand → List Token → Outcome Token Condition
+  read_relation calls t =
       choose (is_sign signs.Arrow) (read_path t)
-      (choose (is_keyword words.In) (read_membership t) (read_comparison t))
+      (choose (is_keyword words.In) (read_membership calls t) (read_comparison calls t))
 
   -- behind a name, behind a quoted text, or behind a number
-  unfoldable pub read_behind : Operand → List Token → Outcome Token Condition
-  read_behind (Variable x span) =
+  unfoldable pub read_behind : Bool → Operand → List Token → Outcome Token Condition
+  read_behind calls (Variable x span) =
       choose (is_sign signs.OpenParen) (read_name_call (pair_test version x) (record {
         text = x;
         span = span;
-      })) (read_relation (Variable x span))
-  read_behind (Constant (Data (datum.Text q)) span) =
+      })) (read_relation calls (Variable x span))
+  read_behind calls (Constant (Data (datum.Text q)) span) =
       choose (is_sign signs.OpenParen) (read_call None (record {
         text = q;
         span = span;
-      })) (read_relation (Constant (Data (datum.Text q)) span))
-  read_behind (Constant v span) = read_relation (Constant v span)
+      })) (read_relation calls (Constant (Data (datum.Text q)) span))
+  read_behind calls (Constant v span) = read_relation calls (Constant v span)
 
   -- a condition without `not`
-  unfoldable pub read_plain : List Token → Outcome Token Condition
-  read_plain = do
+  unfoldable pub read_plain : Bool → List Token → Outcome Token Condition
+  read_plain calls = do
     t ← read_operand
-    read_behind t
+    read_behind calls t
 
   -- `not(..)`
   unfoldable pub read_negated : List Token → Outcome Token Condition
   read_negated = do
     n ← read_keyword words.Not
     read_sign signs.OpenParen
-    c ← read_plain
+    c ← read_plain false
     close ← read_sign signs.CloseParen
     give (tree.negation c (from_to n close))
 
   -- a condition
   unfoldable pub read_condition : List Token → Outcome Token Condition
   read_condition =
-      choose (is_keyword words.Not) read_negated read_plain
+      choose (is_keyword words.Not) read_negated (read_plain true)
+
+  -- a NONE
+  unfoldable pub read_none : List Token → Outcome Token NoneOf
+  read_none = do
+    n ← read_keyword words.NoneOf
+    read_sign signs.OpenParen
+    cs ← read_listed read_condition
+    close ← read_sign signs.CloseParen
+    give (record { conditions = cs; span = from_to n close })
+
+  -- a NONE as an item
+  unfoldable pub read_none_item : List Token → Outcome Token WhereItem
+  read_none_item = do
+    n ← read_none
+    give (none n)
+
+  -- a condition as an item
+  unfoldable pub read_condition_item : List Token → Outcome Token WhereItem
+  read_condition_item = do
+    c ← read_condition
+    give (holds c)
+
+  -- an item of a WHERE
+  unfoldable pub read_where : List Token → Outcome Token WhereItem
+  read_where =
+      if nat_eq version 3
+      then choose (is_keyword words.NoneOf) read_none_item read_condition_item
+      else read_condition_item

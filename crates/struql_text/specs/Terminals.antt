@@ -1,5 +1,5 @@
 -- Single tokens.
-use Rattle.std.specs.Prelude.{ℕ, Bool, true, false, ◌||◌, ◌&&◌, not, List, Option, Some, None, if◌then◌else◌, nat_eq, pos, codes}
+use Rattle.std.specs.Prelude.{ℕ, Bool, true, false, is_some, ◌||◌, ◌&&◌, not, List, [], ◌∷◌, Option, Some, None, if◌then◌else◌, nat_eq, pos, codes}
 use Rattle.std.specs.Str.{bytes_eq}
 use Rattle.std.specs.Ordering.{int_eq}
 use Rattle.sd_value.specs.declared.Datum.TheVariants as datum
@@ -16,7 +16,12 @@ use Rattle.query_spec.specs.declared.Op.TheVariants as op
 use Rattle.query_spec.specs.declared.Test.{Test}
 use Rattle.query_spec.specs.declared.Test.TheVariants as test
 use Rattle.value_texts.specs.declared.TextTest.{TextTest}
-use Rattle.value_texts.specs.declared.TextTest.TheVariants.{Starts, Ends, Has}
+use Rattle.value_texts.specs.declared.TextTest.TheVariants.{Starts, Ends, Has, Matches}
+use Rattle.function_spec.specs.declared.Function.{Function}
+use Rattle.function_spec.specs.declared.Function.TheVariants.{Split}
+use Rattle.function_names.specs.Names.{function_named}
+use Rattle.query_spec.specs.declared.CallSign.{CallSign}
+use Rattle.query_spec.specs.declared.CallSign.TheVariants.{Equals, In}
 use Rattle.struql_ast.specs.declared.Operand.{Operand}
 use Rattle.struql_ast.specs.declared.Operand.TheVariants.{Variable, Constant}
 use Rattle.struql_ast.specs.declared.Aggregate.{Aggregate}
@@ -233,11 +238,72 @@ text_test_of w =
     if bytes_eq w (codes "starts") then Some Starts
     else (if bytes_eq w (codes "ends") then Some Ends
     else (if bytes_eq w (codes "has") then Some Has
-    else None))
+    else (if bytes_eq w (codes "matches") then Some Matches
+    else None)))
 
 -- the same in a version: there are such tests in version 3
 abbrev pub pair_test : ℕ → List ℕ → Option TextTest
 pair_test version w = if nat_eq version 3 then text_test_of w else None
+
+-- the function that a name calls after the sign: after `=` none that may have several values
+abbrev pub after_sign : CallSign → Function → Option Function
+after_sign Equals Split = None
+after_sign sign f = Some f
+
+-- the same, if there is a function
+abbrev pub if_after_sign : CallSign → Option Function → Option Function
+if_after_sign sign None = None
+if_after_sign sign (Some f) = after_sign sign f
+
+-- the function that a name calls after the sign, in version 3
+abbrev pub function_in : ℕ → CallSign → List ℕ → Option Function
+function_in version sign w =
+    if nat_eq version 3 then if_after_sign sign (function_named w) else None
+
+-- the function that a token names after the sign
+abbrev pub function_of_kind : ℕ → CallSign → TokenKind → Option Function
+function_of_kind version sign (kinds.Name w) = function_in version sign w
+function_of_kind version sign kind = None
+
+-- a function, and the place of its name
+pub record NamedFunction : Type 0 where
+  pub function : Function
+  pub span : Span
+
+-- the function with its place, if there is one
+abbrev pub placed_function : Span → Option Function → Option NamedFunction
+placed_function span None = None
+placed_function span (Some f) = Some (record { function = f; span = span })
+
+-- the function that a token names after `in`, with its place
+abbrev pub function_value : ℕ → Token → Option NamedFunction
+function_value version t = placed_function t.span (function_of_kind version In t.kind)
+
+-- the same after an operator, of a token that is no name: a function whose name is a keyword, as `fold`
+abbrev pub kept_function : ℕ → Op → Token → Option NamedFunction
+kept_function version op.Eq t =
+    if is_name version t then None
+    else placed_function t.span (function_of_kind version Equals t.kind)
+kept_function version o t = None
+
+-- the same of the next token
+abbrev pub kept_next : ℕ → Op → List Token → Option NamedFunction
+kept_next version o [] = None
+kept_next version o (t ∷ ts) = kept_function version o t
+
+-- there is such a function
+abbrev pub is_kept_function : ℕ → Op → Token → Bool
+is_kept_function version o t = is_some (kept_function version o t)
+
+-- the function whose name is next
+abbrev pub function_next : ℕ → List Token → Option Function
+function_next version [] = None
+function_next version (t ∷ ts) = function_of_kind version In t.kind
+
+-- the function that an operator and the operand after it call
+abbrev pub called_after : ℕ → Op → Operand → Option Function
+called_after version op.Eq (Variable x span) = function_in version Equals x
+called_after version o u = None
 
 -- `count`, `min` or `max` of a variable, by the function's name
 unfoldable pub aggregate_named : List ℕ → List ℕ → Span → Option Aggregate

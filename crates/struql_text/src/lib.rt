@@ -9,7 +9,7 @@ mod laws;
 mod terms;
 mod tokens;
 
-pub use conditions::{condition_at, test_of};
+pub use conditions::{WhereItem, condition_at, test_of, where_at};
 pub use expression::from_to;
 pub use keyword::{Keyword, Word, keyword_in, keyword_of};
 pub use laws::conditions_are_read_as_spelled;

@@ -12,6 +12,7 @@ use Rattle.template_items.specs.declared.item.Mark.TheVariants.{OpenTemplate, Op
 use Rattle.template_items.specs.declared.item.Mark.TheVariants.{Close, Otherwise, EndChoice, EndRepeat, EndTemplate}
 use Rattle.template_items.specs.declared.item.Mark.TheVariants.{Here, HereOf, Hash, Fault, OpenNote, EndNote}
 use Rattle.template_items.specs.declared.item.Mark.TheVariants.{OpenLayout, OpenFragment, OpenInclude, Hole, EndLayout, EndFragment}
+use Rattle.template_items.specs.declared.item.Mark.TheVariants.{Base}
 use Rattle.template_items.specs.declared.item.ItemKind.{ItemKind}
 use Rattle.template_items.specs.declared.item.ItemKind.TheVariants as kinds
 use Rattle.template_items.specs.declared.item.Item.{Item}
@@ -39,8 +40,9 @@ further_tag bytes =
     if begins (codes "</SNOTE>") bytes then Some (EndNote, 8) else (
     if opens (codes "<SINCLUDE") bytes then Some (OpenInclude, 9) else (
     if begins (codes "<SBODY>") bytes then Some (Hole, 7) else (
+    if begins (codes "<SBASE>") bytes then Some (Base, 7) else (
     if begins (codes "</LAYOUT>") bytes then Some (EndLayout, 9) else (
-    if begins (codes "</FRAGMENT>") bytes then Some (EndFragment, 11) else None))))
+    if begins (codes "</FRAGMENT>") bytes then Some (EndFragment, 11) else None)))))
 
 -- the tag with which bytes begin of which the first is `<`, and how many of its bytes to pass
 abbrev pub tag_of : List ℕ → Option (Mark × ℕ)

@@ -36,6 +36,16 @@ pub enum Mark {
     OpenNote,
     /// A `</SNOTE>` that ends no note.
     EndNote,
+    /// `<SBASE>`.
+    Base,
+    /// `AT`, `FILE` and `AS`, each with its `=`, in the tag of a template. No text has them: they stand for these words where
+    /// the templates of a file are put together.
+    At,
+    File,
+    As,
+    /// A `<SFMT` in a template of pages whose values are written as they stand, or as JSON, without a mode. Likewise.
+    OpenPlain,
+    OpenJson,
 }
 
 /// What an item is.

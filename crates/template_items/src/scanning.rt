@@ -70,6 +70,8 @@ fn further_tag(bytes: &[u8]) -> Option<(Mark, usize)>
         Some((Mark::OpenInclude, 9))
     } else if begins(b"<SBODY>", bytes) {
         Some((Mark::Hole, 7))
+    } else if begins(b"<SBASE>", bytes) {
+        Some((Mark::Base, 7))
     } else if begins(b"</LAYOUT>", bytes) {
         Some((Mark::EndLayout, 9))
     } else if begins(b"</FRAGMENT>", bytes) {

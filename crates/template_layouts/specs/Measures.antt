@@ -86,6 +86,7 @@ marked m place marks.OpenRepeat = opened m place
 marked m place marks.Close = longer m (sum (between m.from place) 1)
 marked m place marks.Hole = holed m place
 marked m place marks.Otherwise = longer m 7
+marked m place marks.Base = longer m 7
 marked m place marks.EndChoice = closed m 6
 marked m place marks.EndRepeat = closed m 7
 marked m place mark = m

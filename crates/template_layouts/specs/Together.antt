@@ -23,8 +23,12 @@ use Rattle.template_layouts.specs.declared.together.Reading as declared_reading
 use Rattle.template_layouts.specs.declared.met.Halted.{Halted}
 use Rattle.template_layouts.specs.declared.met.Halted.TheVariants as halted
 use Rattle.template_layouts.specs.Measures.{no_measure, begun, measured, with_fragment, within_layout, sum, is_too_deep, is_too_large}
-use Rattle.template_layouts.specs.Written.{sort_of, acts, first_view}
-use Rattle.template_tags.specs.Terminals.{is_mark, name_value, label_value}
+use Rattle.template_layouts.specs.Written.{sort_of, acts, first_view, set_item, shown_as}
+use Rattle.template_tags.specs.Terminals.{is_mark, name_value, label_value, quoted_value}
+use Rattle.tmpl.specs.declared.Writing.{Writing}
+use Rattle.tmpl.specs.declared.Writing.TheVariants.{Escaped, Raw, Json}
+use Rattle.tmpl.specs.declared.endings.Ending.{Ending}
+use Rattle.tmpl.specs.Endings.{ending_of, path_ending, writing_of}
 
 -- ---- what was read so far
 
@@ -261,9 +265,51 @@ framed_measure (Some l) m i =
 
 -- ---- the end of a body
 
+-- the ending that a name or a text gives
+abbrev pub ending_by : (List ℕ → Option Ending) → Option (List ℕ) → Option Ending
+ending_by find None = None
+ending_by find (Some text) = find text
+
+-- the ending that an item behind this mark gives the pages of a template
+abbrev pub set_ending : Item → Item → Option Ending
+set_ending mark i =
+    if is_mark marks.As mark then ending_by ending_of (name_value i)
+    else (if is_mark marks.File mark then ending_by path_ending (quoted_value i) else None)
+
+-- how values are written without a mode in such pages
+abbrev pub set_writing : Item → Item → Option Writing
+set_writing mark i = option_map writing_of (set_ending mark i)
+
+-- the writing, or else what the rest says
+abbrev pub writing_or : Option Writing → Writing → Writing
+writing_or (Some w) rest = w
+writing_or None rest = rest
+
+-- how values are written without a mode in the pages of a template of this tag
+abbrev pub tag_writing : List Item → Writing
+tag_writing [] = Escaped
+tag_writing (mark ∷ []) = Escaped
+tag_writing (mark ∷ i ∷ items) = writing_or (set_writing mark i) (tag_writing (i ∷ items))
+
+-- an item that begins a tag that shows values, where they are written so without a mode
+abbrev pub format_by : Writing → Item → Item
+format_by Raw i = shown_as marks.OpenPlain i
+format_by Json i = shown_as marks.OpenJson i
+format_by writing i = i
+
+-- an item of a template whose values are written so without a mode
+abbrev pub written_item : Writing → Item → Item
+written_item writing i = if is_mark marks.OpenFormat i then format_by writing i else i
+
+-- the items of such a template's body
+abbrev pub written_items : Writing → List Item → List Item
+written_items writing = map (written_item writing)
+
 -- the items of a template: its tag, its body with the layouts round it, and its end
 abbrev pub whole_items : Above → Open → Item → List Item
-whole_items a o i = o.tag ++ (framed (reverse a.layouts) o.frame o.items ++ i ∷ [])
+whole_items a o i =
+    o.tag
+    ++ (written_items (tag_writing o.tag) (framed (reverse a.layouts) o.frame o.items) ++ i ∷ [])
 
 -- one more template, where the bytes of all of them are so many
 abbrev pub ends_template : ℕ → Above → Open → Item → Result Above Met
@@ -316,6 +362,8 @@ step_by roles.Kept a o i = with_open a (Ok (kept o i))
 step_by roles.Opens a o i = with_open a (Ok (opens i))
 step_by roles.Titles a o i = with_open a (titles a o i)
 step_by roles.Frames a o i = with_open a (frames a o i)
+step_by roles.Sets a o i = with_open a (Ok (tagged o (set_item i)))
+step_by roles.Settles a o i = with_open a (Ok (tagged o i))
 step_by roles.Closes a o i = with_open a (Ok (tagged o i))
 step_by roles.Precedes a o i = with_open a (Ok (precedes o i))
 step_by roles.Includes a o i = with_open a (includes a o i)

@@ -1,7 +1,8 @@
 -- A file of templates as it is written: what each of its items is for, and the items where nothing is put in.
 --
 --   file      := { template | layout | fragment }
---   template  := "<TEMPLATE" title [ "IN" "=" Name ] ">" body "</TEMPLATE>"
+--   template  := "<TEMPLATE" title { "IN" "=" Name | "AT" "=" Quoted | "FILE" "=" Quoted | "AS" "=" Name } ">"
+--                body "</TEMPLATE>"
 --   layout    := "<LAYOUT" Name [ "IN" "=" Name ] ">" body "</LAYOUT>"       (with "<SBODY>" in it)
 --   fragment  := "<FRAGMENT" Name ">" body "</FRAGMENT>"
 --   body      := { .. | "<SINCLUDE" Name ">" | "<SBODY>" }                     ("<SBODY>" in a layout alone)
@@ -18,7 +19,8 @@ use Rattle.template_tags.specs.Terminals.{is_mark, is_equals, name_value, label_
 use Rattle.template_layouts.specs.declared.written.Sort.{Sort}
 use Rattle.template_layouts.specs.declared.written.Sort.TheVariants.{Template, Layout, Fragment}
 use Rattle.template_layouts.specs.declared.written.Stage.{Stage}
-use Rattle.template_layouts.specs.declared.written.Stage.TheVariants.{Within, Title, Titled, Leading, Framing, Framed, Included, Ended}
+use Rattle.template_layouts.specs.declared.written.Stage.TheVariants.{Within, Title, Titled, Leading, Framing, Framed, Equating, Settling}
+use Rattle.template_layouts.specs.declared.written.Stage.TheVariants.{Included, Ended}
 use Rattle.template_layouts.specs.declared.written.View.{View}
 use Rattle.template_layouts.specs.declared.written.Role.{Role}
 use Rattle.template_layouts.specs.declared.written.Role.TheVariants as roles
@@ -90,25 +92,54 @@ further_role Template i = if is_some (label_value i) then roles.Titles else role
 further_role Layout i = roles.Misplaced
 further_role Fragment i = roles.Misplaced
 
--- A fragment is in no layout.
-abbrev pub lead_role : Sort → Role
-lead_role Template = roles.Passed
-lead_role Layout = roles.Passed
-lead_role Fragment = roles.Misplaced
+-- the mark of the word, if it is `AT`, `FILE` or `AS`
+abbrev pub set_mark : List ℕ → Option Mark
+set_mark word =
+    if bytes_eq word (codes "AT") then Some marks.At else (
+    if bytes_eq word (codes "FILE") then Some marks.File else (
+    if bytes_eq word (codes "AS") then Some marks.As else None))
 
--- after the name, and before these items
-abbrev pub titled_role : Sort → Item → List Item → Role
-titled_role sort i rest =
+-- the mark of a name
+abbrev pub set_word : Option (List ℕ) → Option Mark
+set_word None = None
+set_word (Some word) = set_mark word
+
+-- the mark of an item that is one of these words
+abbrev pub set_by : Item → Option Mark
+set_by i = set_word (name_value i)
+
+-- one of these words and `=`, before what it says
+abbrev pub sets : Item → List Item → Bool
+sets i rest = is_some (set_by i) && starts is_equals rest
+
+-- A fragment is in no layout, and a template or a layout in one.
+abbrev pub lead_role : Sort → (framed : Bool) → Role
+lead_role Template framed = if framed then roles.Misplaced else roles.Passed
+lead_role Layout framed = if framed then roles.Misplaced else roles.Passed
+lead_role Fragment framed = roles.Misplaced
+
+-- A template alone has addresses and endings.
+abbrev pub set_role : Sort → Role
+set_role Template = roles.Sets
+set_role Layout = roles.Misplaced
+set_role Fragment = roles.Misplaced
+
+-- behind a name, and before these items; `other` is what any other item is for
+abbrev pub behind_role : View → Item → List Item → Role → Role
+behind_role v i rest other =
     if is_mark marks.Close i then roles.Closes
-    else (if leads i rest then lead_role sort else further_role sort i)
+    else (if leads i rest then lead_role v.sort v.framed
+    else (if sets i rest then set_role v.sort else other))
 
 abbrev pub role_at : Stage → View → Item → List Item → Role
 role_at Within v i rest = within_role v i.kind
 role_at Title v i rest = name_role roles.Titles i
-role_at Titled v i rest = titled_role v.sort i rest
+role_at Titled v i rest = behind_role v i rest (further_role v.sort i)
 role_at Leading v i rest = roles.Passed
 role_at Framing v i rest = name_role roles.Frames i
-role_at Framed v i rest = close_role roles.Closes i
+role_at Framed v i rest = behind_role v i rest roles.Misplaced
+role_at Equating v i rest = roles.Passed
+role_at Settling v i rest = roles.Settles
 role_at Included v i rest = name_role roles.Includes i
 role_at Ended v i rest = close_role roles.Passed i
 
@@ -126,15 +157,27 @@ sort_of kind = Template
 abbrev pub passed : Stage → Stage
 passed Titled = Leading
 passed Leading = Framing
+passed Equating = Settling
 passed stage = Within
+
+-- what is read in a tag after what it sets
+abbrev pub settled : View → Stage
+settled v = if v.framed then Framed else Titled
 
 -- what is read after an item that is for this
 abbrev pub next : View → Item → Role → View
 next v i roles.Kept = v
-next v i roles.Opens = record { sort = sort_of i.kind; stage = Title; holds = false }
+next v i roles.Opens = record {
+  sort = sort_of i.kind;
+  stage = Title;
+  holds = false;
+  framed = false;
+}
 next v i roles.Titles = record v { stage = Titled }
 next v i roles.Passed = record v { stage = passed v.stage }
-next v i roles.Frames = record v { stage = Framed }
+next v i roles.Frames = record v { stage = Framed; framed = true }
+next v i roles.Sets = record v { stage = Equating }
+next v i roles.Settles = record v { stage = settled v }
 next v i roles.Precedes = record v { stage = Included }
 next v i roles.Includes = record v { stage = Ended }
 next v i roles.Holds = record v { holds = true }
@@ -148,7 +191,7 @@ acts v (i ∷ items) =
 
 -- at the start of a file
 abbrev pub first_view : View
-first_view = record { sort = Template; stage = Within; holds = false }
+first_view = record { sort = Template; stage = Within; holds = false; framed = false }
 
 -- ---- the items where nothing is put in
 
@@ -161,9 +204,19 @@ shown_as mark i = record {
   loops = i.loops;
 }
 
+-- the item as this mark, or as a fault
+abbrev pub as_set : Option Mark → Item → Item
+as_set (Some mark) i = shown_as mark i
+as_set None i = shown_as marks.Fault i
+
+-- the word `AT`, `FILE` or `AS` as its mark
+abbrev pub set_item : Item → Item
+set_item i = as_set (set_by i) i
+
 abbrev pub shown_by : Role → Item → Option Item
 shown_by roles.Opens i = Some (shown_as marks.OpenTemplate i)
 shown_by roles.Ends i = Some (shown_as marks.EndTemplate i)
+shown_by roles.Sets i = Some (set_item i)
 shown_by roles.Misplaced i = Some (shown_as marks.Fault i)
 shown_by roles.Passed i = None
 shown_by roles.Frames i = None
@@ -172,8 +225,8 @@ shown_by roles.Includes i = None
 shown_by roles.Holds i = None
 shown_by role i = Some i
 
--- A layout and a fragment are as a template, `IN = L`, `<SINCLUDE F>` and `<SBODY>` are nothing, and what doesn't fit is a
--- fault.
+-- A layout and a fragment are as a template, `IN = L`, `<SINCLUDE F>` and `<SBODY>` are nothing, `AT =` and its like are one
+-- mark, and what doesn't fit is a fault.
 abbrev pub shown : Act → Option Item
 shown act = shown_by act.role act.item
 

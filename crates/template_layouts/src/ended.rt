@@ -2,7 +2,8 @@
 
 ghost use Rattle.std.specs.Prelude.{◌≡◌, ◌++◌, map, reverse, option_copied, option_map, IfOk, OnOk};
 ghost use Rattle.template_layouts.specs.Together.{open_of, above_of, layout_of, Answers, filled_item, filled, is_frame};
-ghost use Rattle.template_layouts.specs.Together.{framed, frame_of, framed_measure, whole_items, ends_template};
+ghost use Rattle.template_layouts.specs.Together.{framed, frame_of, framed_measure, set_writing, tag_writing, written_item};
+ghost use Rattle.template_layouts.specs.Together.{written_items, whole_items, ends_template};
 ghost use Rattle.template_layouts.specs.Together.{ends_layout, ends_fragment, ends_by, ends};
 
 use crate::above::{Above, Fragment, Layout, find_layout};
@@ -10,10 +11,12 @@ use crate::measure::{Measure, is_too_deep, is_too_large, sum, within_layout};
 use crate::met::{Halted, Met};
 use crate::open::{Open, extend, push};
 use crate::refusal::TmplRefusal;
-use crate::written::{Sort, is_mark};
+use crate::written::{Sort, copied, is_mark, shown_as};
+use sd_lex::TokenKind;
 use sd_value::{NoMemory, Str};
 use std::alloc::Global;
-use template_items::{Item, Mark};
+use template_items::{Item, ItemKind, Mark};
+use tmpl::{Ending, Writing, ending_of, path_ending, writing_of};
 
 /// Adds the item, or if it is an `<SBODY>` the body.
 fn fill_item(
@@ -102,6 +105,68 @@ fn framed_measure(layout: Option<&Layout>, measure: Measure, item: &Item) -> Res
     Ok(within_layout(layout.measure, measure))
 }
 
+/// How values are written without a mode in the pages of a template whose tag sets this.
+fn set_writing(mark: &Item, item: &Item) -> Option<Writing>
+    ensures { result ≡ set_writing mark.now item.now }
+{
+    let ending = match &item.kind {
+        ItemKind::Token(TokenKind::Name(name)) if is_mark(mark, Mark::As) => {
+            ending_of(name.bytes())
+        }
+        ItemKind::Token(TokenKind::Quoted(path)) if is_mark(mark, Mark::File) => {
+            path_ending(path.bytes())
+        }
+        _ => None,
+    };
+    ending.map(writing_of)
+}
+
+/// How values are written without a mode in the pages of a template of this tag.
+fn tag_writing(tag: &[Item]) -> Writing
+    ensures { result ≡ tag_writing tag.now }
+{
+    let mut rest = tag;
+    'items: while let [mark, later @ ..] = rest {
+        if let [item, ..] = later {
+            if let Some(writing) = set_writing(mark, item) {
+                return writing;
+            }
+        }
+        rest = later;
+    }
+    writing_of(Ending::Html)
+}
+
+/// The item, or if it begins a tag that shows values, as one whose values are written so without a mode.
+fn written_item(alloc: Global, writing: Writing, item: &Item) -> Result<Item, NoMemory>
+    ensures { IfOk result (λ i. i ≡ written_item writing item.now) }
+{
+    if !is_mark(item, Mark::OpenFormat) {
+        return copied(alloc, item);
+    }
+    match writing {
+        Writing::Raw => Ok(shown_as(Mark::OpenPlain, item)),
+        Writing::Json => Ok(shown_as(Mark::OpenJson, item)),
+        Writing::Escaped | Writing::Lines | Writing::Url => copied(alloc, item),
+    }
+}
+
+/// Adds the items of a body whose values are written so without a mode.
+fn extend_written(
+    alloc: Global,
+    writing: Writing,
+    items: &mut Vec<Item>,
+    body: &[Item],
+) -> Result<(), NoMemory>
+    ensures { OnOk result (items.new.items ≡ items.old.items ++ written_items writing body.now) }
+{
+    for item in body {
+        let item = written_item(alloc, writing, item)?;
+        items.push(item)?;
+    }
+    Ok(())
+}
+
 /// The items of a template: its tag, its body with the layouts round it, and its end.
 fn whole_items(
     alloc: Global,
@@ -119,7 +184,8 @@ fn whole_items(
         ..
     } = opened;
     let items = framed(alloc, &above.layouts, frame.as_ref(), items)?;
-    extend(alloc, &mut whole, &items)?;
+    let writing = tag_writing(&whole);
+    extend_written(alloc, writing, &mut whole, &items)?;
     push(alloc, &mut whole, item)?;
     Ok(whole)
 }

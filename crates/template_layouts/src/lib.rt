@@ -16,4 +16,4 @@ pub use met::{Halted, Met};
 pub use open::label_of;
 pub use refusal::TmplRefusal;
 pub use together::put_together;
-pub use written::{Act, Role, acts, is_mark, leads, viewed};
+pub use written::{Act, Role, acts, is_mark, leads, set_by, sets, viewed};

@@ -156,7 +156,7 @@ fn marked(m: Measure, place: u64, mark: Mark) -> Measure
         Mark::OpenChoice | Mark::OpenRepeat => opened(m, place),
         Mark::Close => longer(m, sum(between(m.from, place), 1)),
         Mark::Hole => holed(m, place),
-        Mark::Otherwise => longer(m, 7),
+        Mark::Otherwise | Mark::Base => longer(m, 7),
         Mark::EndChoice => closed(m, 6),
         Mark::EndRepeat => closed(m, 7),
         _ => m,

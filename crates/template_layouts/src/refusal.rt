@@ -22,6 +22,8 @@ pub enum TmplRefusal {
     UnknownVariable(u64),
     /// No layout, or no fragment, above has this name.
     Unknown(u64),
+    /// An AT, a FILE or a template's name that would give an address of another page; here is the later of the two.
+    AddressTaken(u64),
     /// The templates up to the one of this name have more bytes than the limit, with what is put in.
     TooLarge(u64),
     NoMemory,

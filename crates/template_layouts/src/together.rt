@@ -7,7 +7,7 @@ use crate::above::Above;
 use crate::ended::end;
 use crate::met::Halted;
 use crate::open::{Open, frame, include, keep, nothing_open, opens, precede, tag, title};
-use crate::written::{Act, Role};
+use crate::written::{Act, Role, set_item};
 use sd_value::NoMemory;
 use std::alloc::Global;
 use std::mem::replace;
@@ -45,7 +45,8 @@ fn step(alloc: Global, reading: &mut Reading, act: &Act) -> Result<(), Halted>
         Role::Opens => *current = opens(alloc, item)?,
         Role::Titles => title(alloc, above, current, item)?,
         Role::Frames => frame(alloc, above, current, item)?,
-        Role::Closes => tag(alloc, current, item)?,
+        Role::Sets => tag(alloc, current, &set_item(item))?,
+        Role::Settles | Role::Closes => tag(alloc, current, item)?,
         Role::Precedes => precede(current, item),
         Role::Includes => include(alloc, above, current, item)?,
         Role::Passed | Role::Misplaced => {}

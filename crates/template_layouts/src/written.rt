@@ -5,7 +5,8 @@ ghost use Rattle.std.specs.Option.{is_some};
 ghost use Rattle.template_tags.specs.Terminals.{is_mark, name_value, label_value};
 ghost use Rattle.template_layouts.specs.Written.{end_template, end_layout, end_fragment, hole_role, mark_role, within_role};
 ghost use Rattle.template_layouts.specs.Written.{name_role, close_role, is_lead, leads, further_role, lead_role};
-ghost use Rattle.template_layouts.specs.Written.{titled_role, role_of, sort_of, passed, next, acts, first_view};
+ghost use Rattle.template_layouts.specs.Written.{set_mark, set_by, sets, set_role, behind_role, role_of, sort_of, settled};
+ghost use Rattle.template_layouts.specs.Written.{passed, next, acts, first_view, set_item};
 ghost use Rattle.template_layouts.specs.Written.{shown_as, shown, viewed};
 
 use sd_lex::TokenKind;
@@ -35,8 +36,12 @@ pub enum Stage {
     Leading,
     /// The name of the layout.
     Framing,
-    /// The `>` after that name.
+    /// What is after that name.
     Framed,
+    /// The `=` after `AT`, `FILE` or `AS`.
+    Equating,
+    /// What it says.
+    Settling,
     /// The name in `<SINCLUDE`.
     Included,
     /// The `>` after that name.
@@ -51,6 +56,8 @@ pub struct View {
     pub stage: Stage,
     /// Whether an `<SBODY>` is before, in the same layout.
     pub holds: bool,
+    /// Whether the name of a layout is before, in the same tag.
+    pub framed: bool,
 }
 
 /// What an item is for.
@@ -64,6 +71,10 @@ pub enum Role {
     Titles,
     /// The layout's name in that tag.
     Frames,
+    /// `AT`, `FILE` or `AS` in that tag.
+    Sets,
+    /// What one of these says.
+    Settles,
     /// The end of that tag.
     Closes,
     /// `<SINCLUDE`.
@@ -217,6 +228,38 @@ pub fn leads(item: &Item, rest: &[Item]) -> bool
     is_lead(item) && has_equals(rest)
 }
 
+/// The mark of the word, if it is `AT`, `FILE` or `AS`.
+fn set_mark(word: &[u8]) -> Option<Mark>
+    ensures { result ≡ set_mark word.now }
+{
+    if word == b"AT".as_slice() {
+        Some(Mark::At)
+    } else if word == b"FILE".as_slice() {
+        Some(Mark::File)
+    } else if word == b"AS".as_slice() {
+        Some(Mark::As)
+    } else {
+        None
+    }
+}
+
+/// The mark of an item that is one of these words.
+pub fn set_by(item: &Item) -> Option<Mark>
+    ensures { result ≡ set_by item.now }
+{
+    match &item.kind {
+        ItemKind::Token(TokenKind::Name(word)) => set_mark(word.bytes()),
+        _ => None,
+    }
+}
+
+/// Whether the item is one of these words before an `=`, where these items follow it.
+pub fn sets(item: &Item, rest: &[Item]) -> bool
+    ensures { result ≡ sets item.now rest.now }
+{
+    set_by(item).is_some() && has_equals(rest)
+}
+
 fn further_role(sort: Sort, item: &Item) -> Role
     ensures { result ≡ further_role sort item.now }
 {
@@ -232,26 +275,44 @@ fn further_role(sort: Sort, item: &Item) -> Role
     }
 }
 
-fn lead_role(sort: Sort) -> Role
-    ensures { result ≡ lead_role sort }
+/// What `IN` is for in a tag that has the name of a layout, or not.
+fn lead_role(sort: Sort, framed: bool) -> Role
+    ensures { result ≡ lead_role sort framed }
 {
     match sort {
-        Sort::Template | Sort::Layout => Role::Passed,
+        Sort::Template | Sort::Layout => {
+            if framed {
+                Role::Misplaced
+            } else {
+                Role::Passed
+            }
+        }
         Sort::Fragment => Role::Misplaced,
     }
 }
 
-/// What an item after the first name of an opening tag is for.
-fn titled_role(sort: Sort, item: &Item, rest: &[Item]) -> Role
-    ensures { result ≡ titled_role sort item.now rest.now }
+fn set_role(sort: Sort) -> Role
+    ensures { result ≡ set_role sort }
+{
+    match sort {
+        Sort::Template => Role::Sets,
+        Sort::Layout | Sort::Fragment => Role::Misplaced,
+    }
+}
+
+/// What an item behind a name in an opening tag is for, where `other` is what any other item is for.
+fn behind_role(view: View, item: &Item, rest: &[Item], other: Role) -> Role
+    ensures { result ≡ behind_role view item.now rest.now other }
 {
     if is_mark(item, Mark::Close) {
         return Role::Closes;
     }
     if leads(item, rest) {
-        lead_role(sort)
+        lead_role(view.sort, view.framed)
+    } else if sets(item, rest) {
+        set_role(view.sort)
     } else {
-        further_role(sort, item)
+        other
     }
 }
 
@@ -262,10 +323,12 @@ fn role_of(view: View, item: &Item, rest: &[Item]) -> Role
     match view.stage {
         Stage::Within => within_role(view, &item.kind),
         Stage::Title => name_role(Role::Titles, item),
-        Stage::Titled => titled_role(view.sort, item, rest),
+        Stage::Titled => behind_role(view, item, rest, further_role(view.sort, item)),
         Stage::Leading => Role::Passed,
         Stage::Framing => name_role(Role::Frames, item),
-        Stage::Framed => close_role(Role::Closes, item),
+        Stage::Framed => behind_role(view, item, rest, Role::Misplaced),
+        Stage::Equating => Role::Passed,
+        Stage::Settling => Role::Settles,
         Stage::Included => name_role(Role::Includes, item),
         Stage::Ended => close_role(Role::Passed, item),
     }
@@ -284,6 +347,17 @@ pub fn sort_of(kind: &ItemKind) -> Sort
     }
 }
 
+/// What is read in a tag after what it sets.
+fn settled(view: View) -> Stage
+    ensures { result ≡ settled view }
+{
+    if view.framed {
+        Stage::Framed
+    } else {
+        Stage::Titled
+    }
+}
+
 /// What is read after an item that is passed over.
 fn passed(stage: Stage) -> Stage
     ensures { result ≡ passed stage }
@@ -291,6 +365,7 @@ fn passed(stage: Stage) -> Stage
     match stage {
         Stage::Titled => Stage::Leading,
         Stage::Leading => Stage::Framing,
+        Stage::Equating => Stage::Settling,
         _ => Stage::Within,
     }
 }
@@ -306,6 +381,7 @@ fn next(view: View, item: &Item, role: Role) -> View
                 sort: sort_of(&item.kind),
                 stage: Stage::Title,
                 holds: false,
+                framed: false,
             };
         }
         Role::Holds => {
@@ -314,9 +390,17 @@ fn next(view: View, item: &Item, role: Role) -> View
                 ..view
             };
         }
+        Role::Frames => {
+            return View {
+                stage: Stage::Framed,
+                framed: true,
+                ..view
+            };
+        }
         Role::Titles => Stage::Titled,
+        Role::Sets => Stage::Equating,
+        Role::Settles => settled(view),
         Role::Passed => passed(view.stage),
-        Role::Frames => Stage::Framed,
         Role::Precedes => Stage::Included,
         Role::Includes => Stage::Ended,
         Role::Closes | Role::Ends | Role::Misplaced => Stage::Within,
@@ -355,6 +439,7 @@ pub fn acts(alloc: Global, items: &[Item]) -> Result<Vec<Act>, NoMemory>
         sort: Sort::Template,
         stage: Stage::Within,
         holds: false,
+        framed: false,
     };
     let mut left = items;
     'items: while let [item, rest @ ..] = left {
@@ -368,7 +453,7 @@ pub fn acts(alloc: Global, items: &[Item]) -> Result<Vec<Act>, NoMemory>
 }
 
 /// The item as this mark.
-fn shown_as(mark: Mark, item: &Item) -> Item
+pub fn shown_as(mark: Mark, item: &Item) -> Item
     ensures { result ≡ shown_as mark item.now }
 {
     Item {
@@ -379,17 +464,28 @@ fn shown_as(mark: Mark, item: &Item) -> Item
     }
 }
 
+/// The word `AT`, `FILE` or `AS` as its mark.
+pub fn set_item(item: &Item) -> Item
+    ensures { result ≡ set_item item.now }
+{
+    match set_by(item) {
+        Some(mark) => shown_as(mark, item),
+        None => shown_as(Mark::Fault, item),
+    }
+}
+
 /// What an item counts as, where nothing is put in.
 fn shown(alloc: Global, act: &Act) -> Result<Option<Item>, NoMemory>
     ensures { IfOk result (λ o. o ≡ shown act.now) }
 {
     match act.role {
-        Role::Kept | Role::Titles | Role::Closes => {
+        Role::Kept | Role::Titles | Role::Settles | Role::Closes => {
             let copy = copied(alloc, &act.item)?;
             Ok(Some(copy))
         }
         Role::Opens => Ok(Some(shown_as(Mark::OpenTemplate, &act.item))),
         Role::Ends => Ok(Some(shown_as(Mark::EndTemplate, &act.item))),
+        Role::Sets => Ok(Some(set_item(&act.item))),
         Role::Misplaced => Ok(Some(shown_as(Mark::Fault, &act.item))),
         Role::Precedes | Role::Includes | Role::Passed | Role::Frames | Role::Holds => Ok(None),
     }

@@ -15,8 +15,11 @@ use Rattle.template_tags.specs.declared.words.Bound.{Bound}
 use Rattle.template_tags.specs.Terminals.{is_mark, is_text, text_value, name_value, constant_value, is_not, not_value}
 use Rattle.template_tags.specs.Terminals.{in_value, is_compare, compare_value, order_of, shown, no_settings}
 use Rattle.template_tags.specs.Terminals.{is_same, same_value, is_count, count_value, int_value}
-use Rattle.template_tags.specs.Terminals.{loop_settings, variable_value}
-use Rattle.template_reader.specs.Template.{chain, Entry, Head, named_value}
+use Rattle.template_tags.specs.Terminals.{loop_settings, variable_value, format_of, is_format, base_part}
+use Rattle.template_tags.specs.Terminals.{segment_value, path_value, further_value}
+use Rattle.template_reader.specs.declared.file.HeadSettings.{HeadSettings}
+use Rattle.template_reader.specs.Template.{chain, Entry, Head, named_value, nothing_set}
+use Rattle.template_reader.specs.Template.{with_address, may_set, function_with, collection_with}
 use Rattle.template_tags.specs.Reading.{read_mark, read_expr, read_settings}
 
 -- ---- bodies
@@ -30,14 +33,24 @@ read_text = do
 -- the tag of an expression's values
 unfoldable pub read_format : List Bound → List Item → Outcome Item Body
 read_format scope = do
-  read_mark marks.OpenFormat
+  plain ← take_one true format_of
   e ← read_expr scope
-  s ← read_settings 8 no_settings
-  give (shown e s)
+  s ← read_settings 9 no_settings
+  give (shown e plain s)
+
+-- the tag of what addresses begin with
+unfoldable pub read_base : List Item → Outcome Item Body
+read_base = do
+  read_mark marks.Base
+  give base_part
+
+-- a tag that shows something
+unfoldable pub read_shown : List Bound → List Item → Outcome Item Body
+read_shown scope = choose (is_mark marks.Base) read_base (read_format scope)
 
 -- a part without a body
 unfoldable pub read_leaf : List Bound → List Item → Outcome Item Body
-read_leaf scope = choose is_text read_text (read_format scope)
+read_leaf scope = choose is_text read_text (read_shown scope)
 
 -- a comparison's right side
 unfoldable pub read_compared : Cmp → List Item → Outcome Item Test
@@ -176,7 +189,7 @@ is_block i = is_mark marks.OpenChoice i || is_mark marks.OpenRepeat i
 
 -- the item begins a part of a body
 abbrev pub is_part : Item → Bool
-is_part i = is_block i || (is_text i || is_mark marks.OpenFormat i)
+is_part i = is_block i || (is_text i || (is_format i || is_mark marks.Base i))
 
 -- the tag of a block, and what is in it, where one more may be open
 unfoldable pub read_part : (List Bound → List Item → Outcome Item Body) → List Bound → List Item
@@ -205,13 +218,52 @@ read_block_at (suc depth) scope = read_block (read_body depth) scope
 unfoldable pub read_collection_head : List ℕ → List Item → Outcome Item Head
 read_collection_head name = do
   read_mark marks.Close
-  give (record { of_collection = true; name = name })
+  give (collection_with name)
+
+-- AT and its segment
+unfoldable pub read_at : HeadSettings → List Item → Outcome Item HeadSettings
+read_at s = do
+  read_mark marks.At
+  v ← take_one true segment_value
+  give (with_address s false v)
+
+-- FILE and its path
+unfoldable pub read_path : HeadSettings → List Item → Outcome Item HeadSettings
+read_path s = do
+  read_mark marks.File
+  v ← take_one true path_value
+  give (with_address s true v)
+
+-- AS and its ending
+unfoldable pub read_ending_as : HeadSettings → List Item → Outcome Item HeadSettings
+read_ending_as s = do
+  read_mark marks.As
+  e ← take_one true further_value
+  give (record s { ending = Some e })
+
+-- one of these
+unfoldable pub read_head_setting : HeadSettings → List Item → Outcome Item HeadSettings
+read_head_setting s =
+    choose (is_mark marks.At) (read_at s)
+    (choose (is_mark marks.File) (read_path s) (read_ending_as s))
+
+-- the end of a function's tag
+unfoldable pub read_head_close : HeadSettings → List Item → Outcome Item HeadSettings
+read_head_close s = do
+  read_mark marks.Close
+  give s
+
+-- at most n more settings of a function's tag, and its end
+unfoldable pub read_head_settings : ℕ → HeadSettings → List Item → Outcome Item HeadSettings
+read_head_settings zero s = read_head_close s
+read_head_settings (suc n) s =
+    choose (may_set s) (read_head_setting s >>= read_head_settings n) (read_head_close s)
 
 -- the head of a function's template
 unfoldable pub read_function_head : List ℕ → List Item → Outcome Item Head
 read_function_head name = do
-  read_mark marks.Close
-  give (record { of_collection = false; name = name })
+  s ← read_head_settings 2 nothing_set
+  give (function_with name s)
 
 -- the head behind the word COLLECTION
 unfoldable pub read_named_head : List ℕ → List Item → Outcome Item Head
@@ -235,7 +287,7 @@ read_template = do
   h ← read_head_rest n
   b ← read_body 32 []
   read_mark marks.EndTemplate
-  give (record { of_collection = h.of_collection; name = h.name; body = b })
+  give (record { head = h; body = b })
 
 -- the template, if all items were read
 abbrev pub whole_of : Outcome Item Entry → Option Entry

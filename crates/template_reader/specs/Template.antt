@@ -1,29 +1,36 @@
 -- The grammar of a file of templates, over items.
 --
 --   file     := { template }
---   template := "<TEMPLATE" ( Name | "COLLECTION" label ) ">" body "</TEMPLATE>"
---   body     := { text | format | choice | repeat }
+--   template := "<TEMPLATE" ( Name { set } | "COLLECTION" label ) ">" body "</TEMPLATE>"
+--   set      := "AT" "=" Quoted | "FILE" "=" Quoted | "AS" "=" Name      (FILE alone, each other once; each a mark)
+--   body     := { text | format | "<SBASE>" | choice | repeat }
 --   format   := "<SFMT" expr { setting } ">"        (setting and order are those of a tag's grammar)
 --   choice   := "<SIF" [ "NOT" ] test ">" body [ "<SELSE>" body ] "</SIF>"
 --   test     := expr [ compare constant | "SAME" expr ] | "COUNT" expr compare Int
 --   repeat   := "<SFOR" Name "IN" expr { order } ">" body "</SFOR>"
 --   expr     := "@" [ word ] | "#" label [ "." word ] | Name [ "." word ]
 --   word     := label { "." label }                label := Name | Quoted
-use Rattle.std.specs.Prelude.{ℕ, zero, suc, Bool, true, false, List, [], ◌∷◌, ◌++◌, Option, Some, None, codes, if◌then◌else◌}
+use Rattle.std.specs.Prelude.{◌≡◌, ◌&&◌, ◌||◌, not, ℕ, zero, suc, Bool, true, false, List, [], ◌∷◌, ◌++◌, Option, Some, None, codes, if◌then◌else◌}
 use Rattle.std.specs.Str.{bytes_eq}
+use Rattle.std.specs.Option.{is_none}
 use Rattle.grammar.specs.Grammar.{nothing, one, ◌>>=◌, ◌>>◌, either, many}
 use Rattle.template_items.specs.declared.item.Item.{Item}
 use Rattle.template_items.specs.declared.item.Mark.TheVariants as marks
 use Rattle.tmpl.specs.Body.{Body, done, part_before, text, format, count, choice, repeat}
 use Rattle.tmpl.specs.declared.Cmp.{Cmp}
+use Rattle.tmpl.specs.declared.endings.Ending.{Ending}
+use Rattle.tmpl.specs.declared.endings.Ending.TheVariants.{Html}
 use Rattle.tmpl.specs.declared.Expr.{Expr}
 use Rattle.tmpl.specs.declared.Part.{Part}
 use Rattle.tmpl.specs.declared.Test.{Test}
 use Rattle.tmpl.specs.declared.Test.TheVariants.{Any, Compares, Counts, Same}
 use Rattle.template_tags.specs.declared.words.Bound.{Bound}
+use Rattle.template_reader.specs.declared.file.Chosen.{Chosen}
+use Rattle.template_reader.specs.declared.file.HeadSettings.{HeadSettings}
 use Rattle.template_tags.specs.Terminals.{text_value, name_value, label_value, constant_value, not_value, in_value, compare_value}
 use Rattle.template_tags.specs.Terminals.{same_value, count_value, int_value}
-use Rattle.template_tags.specs.Terminals.{order_of, shown, no_settings, loop_settings, variable_value}
+use Rattle.template_tags.specs.Terminals.{order_of, shown, no_settings, loop_settings, variable_value, or_else}
+use Rattle.template_tags.specs.Terminals.{is_mark, format_of, base_part, segment_value, path_value, further_value}
 use Rattle.template_tags.specs.Tag.{mark, expr, any_expr, settings}
 
 -- ---- bodies
@@ -33,6 +40,12 @@ abbrev pub text_part : List Item → Body → Type 0
 text_part = do
   t ← one text_value
   nothing (text t done)
+
+-- the tag of what addresses begin with
+abbrev pub base : List Item → Body → Type 0
+base = do
+  mark marks.Base
+  nothing base_part
 
 -- the parts one after the other
 abbrev pub before : Body → Body → Body
@@ -99,10 +112,10 @@ module _ (E : List Bound → List Item → Expr → Type 0) where
   -- the tag of an expression's values
   abbrev pub format_part : List Bound → List Item → Body → Type 0
   format_part scope = do
-    mark marks.OpenFormat
+    plain ← one format_of
     e ← E scope
-    s ← settings 8 no_settings
-    nothing (shown e s)
+    s ← settings 9 no_settings
+    nothing (shown e plain s)
 
   -- SAME, another expression, and the end of the tag
   abbrev pub same : List Bound → List Item → Test → Type 0
@@ -135,7 +148,7 @@ module _ (E : List Bound → List Item → Expr → Type 0) where
 
   -- a part without a body
   abbrev pub leaf : List Bound → List Item → Body → Type 0
-  leaf scope = either text_part (format_part scope)
+  leaf scope = either text_part (either base (format_part scope))
 
   -- `body` is what is between tags, where these loops are round it.
   module _ (body : List Bound → List Item → Body → Type 0) where
@@ -178,16 +191,40 @@ module _ (E : List Bound → List Item → Expr → Type 0) where
 
 -- ---- templates
 
--- a template, with the sort and name of what it presents
-pub record Entry : Type 0 where
-  pub of_collection : Bool
-  pub name : List ℕ
-  pub body : Body
-
--- what a template is for: a sort, and its name
+-- What a template is for: a sort, its name, the ending of the pages that it makes, and the address that it chooses for
+-- them.
 pub record Head : Type 0 where
   pub of_collection : Bool
   pub name : List ℕ
+  pub ending : Ending
+  pub address : Option Chosen
+
+-- a template, with what it is for
+pub record Entry : Type 0 where
+  pub head : Head
+  pub body : Body
+
+-- before the first setting
+abbrev pub nothing_set : HeadSettings
+nothing_set = record { address = None; ending = None }
+
+-- with an AT or a FILE
+abbrev pub with_address : HeadSettings → (is_file : Bool) → List ℕ × ℕ → HeadSettings
+with_address s is_file value = record s {
+  address = Some (record { is_file = is_file; path = value.0; place = value.1 });
+}
+
+-- a FILE is set
+abbrev pub has_file : Option Chosen → Bool
+has_file None = false
+has_file (Some c) = c.is_file
+
+-- One of these may come next: AT and AS once each, FILE alone.
+abbrev pub may_set : HeadSettings → Item → Bool
+may_set s i =
+    (is_mark marks.At i && is_none s.address)
+    || ((is_mark marks.File i && (is_none s.address && is_none s.ending))
+    || (is_mark marks.As i && (is_none s.ending && not (has_file s.address))))
 
 -- the word is that of a sort
 abbrev pub is_sort : List ℕ → Bool
@@ -197,17 +234,65 @@ is_sort n = bytes_eq n (codes "COLLECTION")
 abbrev pub named_value : List ℕ → Item → Option (List ℕ)
 named_value n i = if is_sort n then label_value i else None
 
+-- of a collection
+abbrev pub collection_with : List ℕ → Head
+collection_with name = record { of_collection = true; name = name; ending = Html; address = None }
+
+-- of a function, with what is set; without AS its pages end in `html`
+abbrev pub function_with : List ℕ → HeadSettings → Head
+function_with name s = record {
+  of_collection = false;
+  name = name;
+  ending = or_else s.ending Html;
+  address = s.address;
+}
+
 -- the head of a collection's template
 abbrev pub collection_head : List ℕ → List Item → Head → Type 0
 collection_head name = do
   mark marks.Close
-  nothing (record { of_collection = true; name = name })
+  nothing (collection_with name)
+
+-- AT and its segment
+abbrev pub head_at : HeadSettings → List Item → HeadSettings → Type 0
+head_at s = do
+  mark marks.At
+  v ← one segment_value
+  nothing (with_address s false v)
+
+-- FILE and its path
+abbrev pub head_path : HeadSettings → List Item → HeadSettings → Type 0
+head_path s = do
+  mark marks.File
+  v ← one path_value
+  nothing (with_address s true v)
+
+-- AS and its ending
+abbrev pub head_as : HeadSettings → List Item → HeadSettings → Type 0
+head_as s = do
+  mark marks.As
+  e ← one further_value
+  nothing (record s { ending = Some e })
+
+-- one of these, where it may come
+abbrev pub head_setting : HeadSettings → List Item → HeadSettings → Type 0
+head_setting s [] t = ⊥
+head_setting s (i ∷ items) t =
+    (may_set s i ≡ true) × either (head_at s) (either (head_path s) (head_as s)) (i ∷ items) t
+
+-- at most n more settings, and the end of the tag
+abbrev pub head_settings : ℕ → HeadSettings → List Item → HeadSettings → Type 0
+head_settings zero s = do
+  mark marks.Close
+  nothing s
+head_settings (suc n) s =
+    either (head_setting s >>= head_settings n) (mark marks.Close >>= λ _. nothing s)
 
 -- the head of a function's template
 abbrev pub function_head : List ℕ → List Item → Head → Type 0
 function_head name = do
-  mark marks.Close
-  nothing (record { of_collection = false; name = name })
+  s ← head_settings 2 nothing_set
+  nothing (function_with name s)
 
 -- a head behind its first word
 abbrev pub head_rest : List ℕ → List Item → Head → Type 0
@@ -221,7 +306,7 @@ template body = do
   h ← head_rest n
   b ← body
   mark marks.EndTemplate
-  nothing (record { of_collection = h.of_collection; name = h.name; body = b })
+  nothing (record { head = h; body = b })
 
 -- with at most 32 tags open at once, and variables of the loops round them alone
 abbrev pub within : List Item → List Entry → Type 0

@@ -8,7 +8,8 @@ ghost use Rattle.template_reader.specs.Template.{single};
 ghost use Rattle.token_reader.specs.Gives.{Gives};
 ghost use Rattle.template_tags.specs.Terminals.{no_settings, loop_settings};
 ghost use Rattle.template_reader.specs.Template.{chain};
-ghost use Rattle.template_reader.specs.Reading.{read_text, read_format, read_leaf, read_compared, read_not_compared};
+ghost use Rattle.template_reader.specs.Reading.{read_text, read_format, read_base, read_shown, read_leaf};
+ghost use Rattle.template_reader.specs.Reading.{read_compared, read_not_compared};
 ghost use Rattle.template_reader.specs.Reading.{read_comparing, read_same, read_no_comparison, read_comparison};
 ghost use Rattle.template_reader.specs.Reading.{read_of_values, read_of_count, read_test, read_other_branch, read_no_other};
 ghost use Rattle.template_reader.specs.Reading.{read_ending, read_branches, read_tested, read_negated};
@@ -20,11 +21,14 @@ use sd_value::{NoMemory, Str};
 use std::alloc::Global;
 use template_items::{Item, Mark};
 use template_tags::{
-    Bound, Settings, Showing, compare_at, constant_at, count_at, expression_at, has_compare,
-    has_count, has_mark, has_not, has_same, has_text, in_at, int_at, mark_at, not_at, order_of,
-    same_at, settings_at, shown, text_at, variable_at,
+    Bound, Settings, Showing, base_part, compare_at, constant_at, count_at, expression_at,
+    format_at as opening_at, has_compare, has_count, has_format, has_mark, has_not, has_same,
+    has_text, in_at, int_at, mark_at, not_at, order_of, same_at, settings_at, shown, text_at,
+    variable_at,
 };
-use tmpl::{Against, Choice, Expr, Mode, Number, Order, Part, Repeat, SortKeys, Test, Writing};
+use tmpl::{
+    Against, Choice, Ending, Expr, Mode, Number, Order, Part, Repeat, SortKeys, Test, Writing,
+};
 use token_reader::Halt;
 
 #[tactic(auto, unfolding(crate::specs::Reading::read_text))]
@@ -45,6 +49,7 @@ fn no_settings(alloc: Global) -> Settings
         limit: None,
         delimiter: None,
         mode: None,
+        ending: None,
     }
 }
 
@@ -57,7 +62,8 @@ fn loop_settings(alloc: Global) -> Settings
         descend: None,
         limit: None,
         delimiter: None,
-        mode: Some(Showing::Each(Mode::Written(Writing::Escaped))),
+        mode: Some(Showing::Each(Mode::Written(Writing::Escaped, Ending::Html))),
+        ending: None,
     }
 }
 
@@ -70,10 +76,35 @@ fn format_at<'a>(
 ) -> Result<(Part, &'a [Item]), Halt<'a, Item>>
     ensures { Gives (λ x. single x.0) (λ x. x.1.now) result (read_format scope.now items.now) }
 {
-    let (_, rest) = mark_at(items, Mark::OpenFormat)?;
+    let (plain, rest) = opening_at(items)?;
     let (values, rest) = expression_at(alloc, scope, rest)?;
-    let (settings, rest) = settings_at(alloc, 8, no_settings(alloc), rest)?;
-    Ok((shown(values, settings), rest))
+    let (settings, rest) = settings_at(alloc, 9, no_settings(alloc), rest)?;
+    Ok((shown(values, plain, settings), rest))
+}
+
+/// `<SBASE>`.
+#[tactic(auto, unfolding(crate::specs::Reading::read_base))]
+fn base_at(alloc: Global, items: &[Item]) -> Result<(Part, &[Item]), Halt<Item>>
+    ensures { Gives (λ x. single x.0) (λ x. x.1.now) result (read_base items.now) }
+{
+    let (_, rest) = mark_at(items, Mark::Base)?;
+    Ok((base_part(alloc), rest))
+}
+
+/// A tag that shows something.
+#[tactic(auto, unfolding(crate::specs::Reading::read_shown))]
+fn shown_at<'a>(
+    alloc: Global,
+    scope: &[Bound],
+    items: &'a [Item],
+) -> Result<(Part, &'a [Item]), Halt<'a, Item>>
+    ensures { Gives (λ x. single x.0) (λ x. x.1.now) result (read_shown scope.now items.now) }
+{
+    if has_mark(items, Mark::Base) {
+        base_at(alloc, items)
+    } else {
+        format_at(alloc, scope, items)
+    }
 }
 
 #[tactic(auto, unfolding(crate::specs::Reading::read_leaf))]
@@ -87,7 +118,7 @@ fn leaf_at<'a>(
     if has_text(items) {
         text_part_at(alloc, items)
     } else {
-        format_at(alloc, scope, items)
+        shown_at(alloc, scope, items)
     }
 }
 
@@ -264,7 +295,7 @@ fn has_block(items: &[Item]) -> bool
 fn has_part(items: &[Item]) -> bool
     ensures { result ≡ starts is_part items.now }
 {
-    has_block(items) || has_text(items) || has_mark(items, Mark::OpenFormat)
+    has_block(items) || has_text(items) || has_format(items) || has_mark(items, Mark::Base)
 }
 
 /// A body in which `depth` tags more may be open at once.

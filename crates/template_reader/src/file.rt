@@ -6,8 +6,9 @@ ghost use Rattle.grammar.specs.Reading as reading;
 ghost use Rattle.template_items.specs.declared.item.Mark.TheVariants as marks;
 ghost use Rattle.token_reader.specs.Gives.{Gives};
 ghost use Rattle.template_tags.specs.Terminals.{is_mark};
-ghost use Rattle.template_reader.specs.Template.{is_sort, named_value};
+ghost use Rattle.template_reader.specs.Template.{is_sort, named_value, has_file, may_set};
 ghost use Rattle.template_reader.specs.Entries.{head_of, entry_of, GivesAll};
+ghost use Rattle.template_reader.specs.Reading.{read_at, read_path, read_ending_as, read_head_setting, read_head_settings};
 ghost use Rattle.template_reader.specs.Reading.{read_collection_head, read_function_head, read_named_head, is_named};
 ghost use Rattle.template_reader.specs.Reading.{read_head_rest, read_template, whole_of, read_file};
 
@@ -16,22 +17,39 @@ use sd_value::{NoMemory, Str};
 use std::alloc::Global;
 use template_items::{Item, Mark};
 use template_layouts::label_of;
-use template_tags::{has_mark, mark_at, name_at};
-use tmpl::Part;
+use template_tags::{further_at, has_mark, mark_at, name_at, path_at, segment_at};
+use tmpl::{Ending, Part};
 use token_reader::Halt;
 
-/// The sort and name of what a template presents.
+/// An AT, or a FILE: what it says, and where.
+#[derive(Drop)]
+pub struct Chosen {
+    pub is_file: bool,
+    pub path: Str,
+    pub place: u64,
+}
+
+/// What the tag of a function's template sets.
+#[derive(Drop)]
+pub struct HeadSettings {
+    pub address: Option<Chosen>,
+    pub ending: Option<Ending>,
+}
+
+/// The sort and name of what a template presents, the ending of the pages that it makes, and the address that it chooses for
+/// them.
 #[derive(Drop)]
 pub struct Head {
     pub of_collection: bool,
     pub name: Str,
+    pub ending: Ending,
+    pub address: Option<Chosen>,
 }
 
 /// A template as it is in the file.
 #[derive(Drop)]
 pub struct Entry {
-    pub of_collection: bool,
-    pub name: Str,
+    pub head: Head,
     pub parts: Vec<Part>,
 }
 
@@ -85,20 +103,144 @@ fn named_head_at<'a>(
         Head {
             of_collection: true,
             name,
+            ending: Ending::Html,
+            address: None,
         },
         rest,
     ))
 }
 
+/// Whether the address is a FILE.
+fn has_file(address: &Option<Chosen>) -> bool
+    ensures { result ≡ has_file address.now }
+{
+    match address {
+        None => false,
+        Some(chosen) => chosen.is_file,
+    }
+}
+
+/// Whether one of AT, FILE and AS is next that may come.
+fn may_set(settings: &HeadSettings, items: &[Item]) -> bool
+    ensures { result ≡ starts (may_set settings.now) items.now }
+{
+    let has_address = settings.address.is_some();
+    let has_ending = settings.ending.is_some();
+    (has_mark(items, Mark::At) && !has_address)
+        || (has_mark(items, Mark::File) && !has_address && !has_ending)
+        || (has_mark(items, Mark::As) && !has_ending && !has_file(&settings.address))
+}
+
+#[tactic(auto, unfolding(crate::specs::Reading::read_at))]
+fn at_at(
+    alloc: Global,
+    mut settings: HeadSettings,
+    items: &[Item],
+) -> Result<(HeadSettings, &[Item]), Halt<Item>>
+    ensures { Gives (λ x. x.0) (λ x. x.1.now) result
+        (read_at settings items.now) }
+{
+    let (_, rest) = mark_at(items, Mark::At)?;
+    let ((path, place), rest) = segment_at(alloc, rest)?;
+    settings.address = Some(Chosen {
+        is_file: false,
+        path,
+        place,
+    });
+    Ok((settings, rest))
+}
+
+#[tactic(auto, unfolding(crate::specs::Reading::read_path))]
+fn file_path_at(
+    alloc: Global,
+    mut settings: HeadSettings,
+    items: &[Item],
+) -> Result<(HeadSettings, &[Item]), Halt<Item>>
+    ensures { Gives (λ x. x.0) (λ x. x.1.now) result
+        (read_path settings items.now) }
+{
+    let (_, rest) = mark_at(items, Mark::File)?;
+    let ((path, place), rest) = path_at(alloc, rest)?;
+    settings.address = Some(Chosen {
+        is_file: true,
+        path,
+        place,
+    });
+    Ok((settings, rest))
+}
+
+#[tactic(auto, unfolding(crate::specs::Reading::read_ending_as))]
+fn ending_as_at(
+    mut settings: HeadSettings,
+    items: &[Item],
+) -> Result<(HeadSettings, &[Item]), Halt<Item>>
+    ensures { Gives (λ x. x.0) (λ x. x.1.now) result
+        (read_ending_as settings items.now) }
+{
+    let (_, rest) = mark_at(items, Mark::As)?;
+    let (ending, rest) = further_at(rest)?;
+    settings.ending = Some(ending);
+    Ok((settings, rest))
+}
+
+/// One of AT, FILE and AS.
+#[tactic(auto, unfolding(crate::specs::Reading::read_head_setting))]
+fn head_setting_at(
+    alloc: Global,
+    settings: HeadSettings,
+    items: &[Item],
+) -> Result<(HeadSettings, &[Item]), Halt<Item>>
+    ensures { Gives (λ x. x.0) (λ x. x.1.now) result
+        (read_head_setting settings items.now) }
+{
+    if has_mark(items, Mark::At) {
+        at_at(alloc, settings, items)
+    } else if has_mark(items, Mark::File) {
+        file_path_at(alloc, settings, items)
+    } else {
+        ending_as_at(settings, items)
+    }
+}
+
+/// At most `turns` further settings of a function's tag, and its end.
+fn head_settings_at(
+    alloc: Global,
+    turns: u32,
+    settings: HeadSettings,
+    items: &[Item],
+) -> Result<(HeadSettings, &[Item]), Halt<Item>>
+    ensures { Gives (λ x. x.0) (λ x. x.1.now) result
+        (read_head_settings turns settings items.now) }
+{
+    let mut set = settings;
+    let mut rest = items;
+    let mut left = turns;
+    'settings: while left > 0 && may_set(&set, rest) {
+        let (more, after) = head_setting_at(alloc, set, rest)?;
+        set = more;
+        rest = after;
+        left -= 1;
+    }
+    let (_, rest) = mark_at(rest, Mark::Close)?;
+    Ok((set, rest))
+}
+
 #[tactic(auto, unfolding(crate::specs::Reading::read_function_head))]
-fn function_head_at(items: &[Item], name: Str) -> Result<(Head, &[Item]), Halt<Item>>
+fn function_head_at(alloc: Global, items: &[Item], name: Str) -> Result<(Head, &[Item]), Halt<Item>>
     ensures { Gives (λ x. head_of x.0) (λ x. x.1.now) result (read_function_head name items.now) }
 {
-    let (_, rest) = mark_at(items, Mark::Close)?;
+    let nothing = HeadSettings {
+        address: None,
+        ending: None,
+    };
+    let (settings, rest) = head_settings_at(alloc, 2, nothing, items)?;
+    let HeadSettings { address, ending } = settings;
     Ok((
         Head {
             of_collection: false,
             name,
+            ending: ending.unwrap_or(Ending::Html),
+            address,
         },
         rest,
     ))
@@ -112,7 +254,7 @@ fn head_rest_at(alloc: Global, items: &[Item], word: Str) -> Result<(Head, &[Ite
     if has_named(items, word.bytes()) {
         named_head_at(alloc, items, word.bytes())
     } else {
-        function_head_at(items, word)
+        function_head_at(alloc, items, word)
     }
 }
 
@@ -126,14 +268,7 @@ fn template_at(alloc: Global, items: &[Item]) -> Result<(Entry, &[Item]), Halt<I
     let (head, rest) = head_rest_at(alloc, rest, word)?;
     let (parts, rest) = body_at(alloc, 32, &[], rest)?;
     let (_, rest) = mark_at(rest, Mark::EndTemplate)?;
-    Ok((
-        Entry {
-            of_collection: head.of_collection,
-            name: head.name,
-            parts,
-        },
-        rest,
-    ))
+    Ok((Entry { head, parts }, rest))
 }
 
 /// Templates, one after another.

@@ -1,6 +1,6 @@
 //! The reader of a file of templates.
 
-ghost use Rattle.std.specs.Prelude.{◌≡◌, ◌≢◌, ℕ, ◌<◌, ◌≤◌, ◌^◌, ◌++◌, ◌∷◌, [], List, length, map, IfErr, IfOk, Result};
+ghost use Rattle.std.specs.Prelude.{◌≡◌, ◌↔◌, ◌||◌, IsTrue, ◌≢◌, ℕ, ◌<◌, ◌≤◌, ◌^◌, ◌++◌, ◌∷◌, [], List, length, map, IfErr, IfOk, Result};
 ghost use Rattle.template_items.specs.declared.item.Item.{Item as AnyItem};
 ghost use Rattle.template_items.specs.Scanning.{AreItems};
 ghost use Rattle.tmpl.specs.Body.{TemplateFile};
@@ -10,71 +10,135 @@ ghost use Rattle.template_reader.specs.Reading.{is_block};
 ghost use Rattle.template_layouts.specs.Written.{acts, first_view};
 ghost use Rattle.template_layouts.specs.Together.{items_of, together};
 ghost use Rattle.template_reader.specs.Entries.{entry_of, file_from, AreEntries};
-ghost use Rattle.template_reader.specs.Faults.{twice_met, earlier, met, templates_of, unless_before, unless_met};
+ghost use Rattle.template_reader.specs.Faults.{twice_met, taken_met, earlier, met, templates_of, unless_before, unless_met, IsFiled};
+ghost use Rattle.std.specs.List.{list_any};
+ghost use Rattle.tmpl.specs.Addresses.{AreApart, is_index, meets_name};
+ghost use Rattle.tmpl.specs.Reading.{names_in};
 ghost use Rattle.template_reader.specs.Faults.{past_at, unfit_at, unfit_answer, beyond_answer, IsMade, IsWholeAnswer};
 ghost use Rattle.template_reader.specs.Faults.{IsWrittenAnswer, IsItemsAnswer, IsTemplatesAnswer, UnlessNoMemory};
 ghost use Rattle.template_reader.specs.Faults.{GivesTemplates, OrNoMemory, AreItemsOf, IsTooLong};
 ghost use Rattle.template_reader.specs.Filed.{Filed};
 
-use crate::file::{Entry, alone, file_at};
-use crate::titles::{innermost, twice};
+use crate::file::{Entry, Head, alone, file_at};
+use crate::titles::{first_taken, first_twice, innermost, is_taken, titles};
 use sd_value::NoMemory;
 use std::alloc::Global;
 use template_items::{Item, Mark, items};
 use template_layouts::{Act, Halted, Met, TmplRefusal, acts, is_mark, put_together, viewed};
-use tmpl::{NamedTemplate, Template, Templates};
+use tmpl::{
+    Address, Ending, FileParts, NamedTemplate, Presentation, Template, Templates, is_index,
+    is_well_made, meets_name,
+};
 use token_reader::Halt;
 
-/// The templates that were filed, with their names.
+/// The templates that were filed, with their names, and the addresses that they choose.
 #[derive(Drop)]
 struct Tables {
-    functions: Vec<NamedTemplate>,
-    collections: Vec<NamedTemplate>,
-    bodies: Vec<Template>,
+    parts: FileParts,
 }
 
 impl Tables {
     /// Files one more template, where their numbers reach.
-    fn add(&mut self, entry: Entry) -> Result<(), NoMemory>
-        requires { length self.old.bodies.items < 2 ^ 32 }
+    fn add(&mut self, alloc: Global, entry: Entry) -> Result<(), NoMemory>
+        requires { length self.old.parts.bodies.items < 2 ^ 32 }
         ensures { IfOk result (λ _. (entries : List PlainEntry) → Filed self.old entries
             → Filed self.new (entries ++ entry_of entry ∷ [])) }
     {
-        let number = self.bodies.len() as u32;
-        let named = NamedTemplate {
-            name: entry.name,
-            template: number,
-        };
-        self.bodies.push(Template { parts: entry.parts })?;
-        if entry.of_collection {
-            self.collections.push(named)?;
-            Ok(())
-        } else {
-            self.functions.push(named)?;
-            Ok(())
+        let template = self.parts.bodies.len() as u32;
+        let Entry { head, parts } = entry;
+        self.parts.bodies.push(Template { parts })?;
+        let Head {
+            of_collection,
+            name,
+            ending,
+            address,
+        } = head;
+        if let Some(chosen) = address {
+            self.parts.addresses.push(Address {
+                function: name.copy(alloc)?,
+                is_file: chosen.is_file,
+                path: chosen.path,
+                place: chosen.place,
+            })?;
         }
+        if ending != Ending::Html {
+            self.parts.presentations.push(Presentation {
+                name,
+                ending,
+                template,
+            })?;
+        } else if of_collection {
+            self.parts
+                .collections
+                .push(NamedTemplate { name, template })?;
+        } else {
+            self.parts.functions.push(NamedTemplate { name, template })?;
+        }
+        Ok(())
+    }
+
+    /// Whether each address is well made, and free of the functions and of those after it.
+    fn are_apart(&self) -> bool
+        ensures { IsTrue result ↔ AreApart
+            (names_in self.now.parts.functions.items self.now.parts.presentations.items)
+            self.now.parts.addresses.items }
+    {
+        let addresses = self.parts.addresses.as_slice();
+        for (i, address) in addresses.iter().enumerate() {
+            if !is_well_made(address)
+                || self.has_name(address)
+                || is_taken(&addresses[i + 1..], address)
+            {
+                return false;
+            }
+        }
+        true
+    }
+
+    /// Whether the address is the root's, or one that a function's pages could have.
+    fn has_name(&self, address: &Address) -> bool
+        ensures { result ≡ (is_index address.now || list_any (meets_name address.now)
+            (names_in self.now.parts.functions.items self.now.parts.presentations.items)) }
+    {
+        is_index(address)
+            || self
+                .parts
+                .functions
+                .iter()
+                .any(|one| meets_name(address, one.name.bytes()))
+            || self
+                .parts
+                .presentations
+                .iter()
+                .any(|one| meets_name(address, one.name.bytes()))
     }
 }
 
-/// The file of these templates.
-fn filed(alloc: Global, entries: Vec<Entry>) -> Result<Templates, NoMemory>
+/// The templates in tables.
+fn tables_of(alloc: Global, entries: Vec<Entry>) -> Result<Tables, NoMemory>
     requires { length entries.items ≤ 2 ^ 32 }
-    ensures { IfOk result (λ t. file_of t ≡ file_from (map entry_of entries.items)) }
+    ensures { IfOk result (λ t. Filed t (map entry_of entries.items)) }
 {
     let mut tables = Tables {
-        functions: Vec::new(alloc),
-        collections: Vec::new(alloc),
-        bodies: Vec::new(alloc),
+        parts: FileParts::none(alloc),
     };
     for entry in entries {
-        tables.add(entry)?;
+        tables.add(alloc, entry)?;
     }
-    let Tables {
-        functions,
-        collections,
-        bodies,
-    } = tables;
-    Ok(Templates::of(functions, collections, bodies))
+    Ok(tables)
+}
+
+/// The file of these templates.
+fn filed(alloc: Global, entries: Vec<Entry>) -> Result<Templates, TmplRefusal>
+    requires { length entries.items ≤ 2 ^ 32 }
+    ensures { UnlessNoMemory (IsFiled (map entry_of entries.items)) result }
+{
+    let tables = tables_of(alloc, entries)?;
+    if !tables.are_apart() {
+        return Err(TmplRefusal::AddressTaken(0));
+    }
+    let templates = Templates::of(alloc, tables.parts)?;
+    Ok(templates)
 }
 
 /// A name that occurs twice, and where it is met.
@@ -85,6 +149,19 @@ fn twice_met(doubled: Option<u64>) -> Option<Met>
         Some(place) => Some(Met {
             place,
             refusal: TmplRefusal::Twice(place),
+        }),
+        None => None,
+    }
+}
+
+/// An address that is taken, and where it is met.
+fn taken_met(taken: Option<u64>) -> Option<Met>
+    ensures { result ≡ taken_met taken }
+{
+    match taken {
+        Some(place) => Some(Met {
+            place,
+            refusal: TmplRefusal::AddressTaken(place),
         }),
         None => None,
     }
@@ -176,10 +253,7 @@ fn made(alloc: Global, templates: &[Vec<Item>]) -> Result<Templates, TmplRefusal
     ensures { UnlessNoMemory (IsMade (map items_of templates.now)) result }
 {
     match entries_of(alloc, templates)? {
-        Some(entries) => {
-            let templates = filed(alloc, entries)?;
-            Ok(templates)
-        }
+        Some(entries) => filed(alloc, entries),
         None => Err(TmplRefusal::Expected(0)),
     }
 }
@@ -256,7 +330,9 @@ fn put_in(alloc: Global, items: &[Item], list: &[Act]) -> Result<Put, NoMemory>
     ensures templates { IfOk result
         (λ f. map items_of f.templates.items ≡ templates_of (together items.now)) }
 {
-    let doubled = twice_met(twice(alloc, items)?);
+    let titles = titles(alloc, items)?;
+    let taken = taken_met(first_taken(alloc, titles.as_slice())?);
+    let doubled = earlier(twice_met(first_twice(alloc, titles.as_slice())?), taken);
     match put_together(alloc, list) {
         Ok(above) => Ok(Put {
             first: earlier(doubled, None),

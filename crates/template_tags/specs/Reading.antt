@@ -7,6 +7,7 @@ use Rattle.template_items.specs.declared.item.Mark.{Mark}
 use Rattle.template_items.specs.declared.item.Mark.TheVariants as marks
 use Rattle.tmpl.specs.declared.Expr.{Expr}
 use Rattle.tmpl.specs.declared.Mode.TheVariants.{Written, Embed, Link, Labelled}
+use Rattle.tmpl.specs.declared.endings.Ending.TheVariants.{Html}
 use Rattle.tmpl.specs.declared.WordRoot.TheVariants.{Here, Loop, Collection}
 use Rattle.template_tags.specs.declared.words.Bound.{Bound}
 use Rattle.template_tags.specs.declared.settings.Setting.{Setting}
@@ -16,8 +17,8 @@ use Rattle.template_tags.specs.declared.settings.Showing.TheVariants.{Each, HowM
 use Rattle.template_tags.specs.Terminals.{is_mark, mark_value, is_dot, dot_value, is_equals, equals_value}
 use Rattle.template_tags.specs.Terminals.{quoted_value, label_value, joined_value, direction_value, limit_value}
 use Rattle.template_tags.specs.Terminals.{is_setting, setting_value, is_known, known_value, is_unknown}
-use Rattle.template_tags.specs.Terminals.{is_fold, fold_value, is_descend, descend_value}
-use Rattle.template_tags.specs.Tag.{from, with_key, with_order, with_limit, with_delimiter, with_mode}
+use Rattle.template_tags.specs.Terminals.{is_fold, fold_value, is_descend, descend_value, ending_value}
+use Rattle.template_tags.specs.Tag.{from, with_key, with_order, with_limit, with_delimiter, with_mode, with_as}
 
 -- the reader of a mark
 unfoldable pub read_mark : Mark → List Item → Outcome Item ℕ
@@ -142,18 +143,25 @@ unfoldable pub read_found : Settings → List Item → Outcome Item Settings
 read_found s = do
   take_one true equals_value
   w ← read_word
-  give (with_mode s (Each (Link (Some w))))
+  give (with_mode s (Each (Link (Some w) Html)))
 
 -- a link, with a word or without
 unfoldable pub read_link : Settings → List Item → Outcome Item Settings
-read_link s = choose is_equals (read_found s) (give (with_mode s (Each (Link None))))
+read_link s = choose is_equals (read_found s) (give (with_mode s (Each (Link None Html))))
 
 -- the label of a link
 unfoldable pub read_label : Settings → List Item → Outcome Item Settings
 read_label s = do
   take_one true equals_value
   q ← take_one true quoted_value
-  give (with_mode s (Each (Labelled q)))
+  give (with_mode s (Each (Labelled q Html)))
+
+-- the ending of the pages whose addresses are shown
+unfoldable pub read_as : Settings → List Item → Outcome Item Settings
+read_as s = do
+  take_one true equals_value
+  e ← take_one true ending_value
+  give (with_as s e)
 
 -- the reader of one setting
 abbrev pub read_set : Settings → Setting → List Item → Outcome Item Settings
@@ -165,7 +173,8 @@ read_set s setting.Embed = give (with_mode s (Each Embed))
 read_set s setting.Link = read_link s
 read_set s setting.Label = read_label s
 read_set s setting.Count = give (with_mode s HowMany)
-read_set s (setting.Writing w) = give (with_mode s (Each (Written w)))
+read_set s setting.As = read_as s
+read_set s (setting.Writing w) = give (with_mode s (Each (Written w Html)))
 
 -- the end of the settings
 unfoldable pub read_close : Settings → List Item → Outcome Item Settings

@@ -1,6 +1,7 @@
 -- The grammar of what stands within a tag, over items: expressions and settings.
 --
---   setting  := mode | order | "LABEL" "=" Quoted       (at most one mode; LABEL behind LINK alone)
+--   setting  := mode | order | "LABEL" "=" Quoted | "AS" "=" Name       (at most one mode; LABEL behind LINK alone; AS
+--               without a mode or with LINK, and its Name an ending)
 --   mode     := "EMBED" | "LINK" [ "=" word ] | "COUNT" | "RAW" | "PLAIN" | "LINES" | "URL" | "JSON"
 --   order    := key | "ORDER" "=" ( "ascend" | "descend" ) | "LIMIT" "=" Int | "DELIM" "=" Quoted
 --   key      := "KEY" "=" word [ "FOLD" ] [ "DESCEND" ]       (up to four; with ORDER one, upwards)
@@ -13,6 +14,8 @@ use Rattle.template_items.specs.declared.item.Mark.{Mark}
 use Rattle.template_items.specs.declared.item.Mark.TheVariants as marks
 use Rattle.tmpl.specs.declared.Expr.{Expr}
 use Rattle.tmpl.specs.declared.Mode.TheVariants.{Written, Embed, Link, Labelled}
+use Rattle.tmpl.specs.declared.endings.Ending.{Ending}
+use Rattle.tmpl.specs.declared.endings.Ending.TheVariants.{Html}
 use Rattle.tmpl.specs.declared.SortKey.{SortKey}
 use Rattle.tmpl.specs.declared.WordRoot.{WordRoot}
 use Rattle.tmpl.specs.declared.WordRoot.TheVariants.{Here, Loop, Collection}
@@ -23,7 +26,7 @@ use Rattle.template_tags.specs.declared.settings.Settings.{Settings}
 use Rattle.template_tags.specs.declared.settings.Showing.{Showing}
 use Rattle.template_tags.specs.declared.settings.Showing.TheVariants.{Each, HowMany}
 use Rattle.template_tags.specs.Terminals.{mark_value, dot_value, equals_value, quoted_value, label_value}
-use Rattle.template_tags.specs.Terminals.{joined_value, direction_value, limit_value, setting_value, known_value}
+use Rattle.template_tags.specs.Terminals.{joined_value, direction_value, limit_value, setting_value, known_value, ending_value}
 use Rattle.template_tags.specs.Terminals.{unknown_value, fold_value, descend_value}
 
 -- which lists of items spell which values
@@ -105,6 +108,7 @@ with_mode s mode = record {
   limit = s.limit;
   delimiter = s.delimiter;
   mode = Some mode;
+  ending = s.ending;
 }
 
 -- the settings, with a further `KEY`
@@ -115,6 +119,7 @@ with_key s key = record {
   limit = s.limit;
   delimiter = s.delimiter;
   mode = s.mode;
+  ending = s.ending;
 }
 
 -- the settings, with `ORDER`
@@ -125,6 +130,7 @@ with_order s descend = record {
   limit = s.limit;
   delimiter = s.delimiter;
   mode = s.mode;
+  ending = s.ending;
 }
 
 -- the settings, with `LIMIT`
@@ -135,6 +141,7 @@ with_limit s limit = record {
   limit = Some limit;
   delimiter = s.delimiter;
   mode = s.mode;
+  ending = s.ending;
 }
 
 -- the settings, with `DELIM`
@@ -145,6 +152,18 @@ with_delimiter s text = record {
   limit = s.limit;
   delimiter = Some text;
   mode = s.mode;
+  ending = s.ending;
+}
+
+-- the settings, with `AS`
+abbrev pub with_as : Settings → Ending → Settings
+with_as s ending = record {
+  keys = s.keys;
+  descend = s.descend;
+  limit = s.limit;
+  delimiter = s.delimiter;
+  mode = s.mode;
+  ending = Some ending;
 }
 
 -- a word of a key that may be left out: whether it is here
@@ -191,14 +210,21 @@ abbrev pub setting_found : Settings → List Item → Settings → Type 0
 setting_found s = do
   one equals_value
   w ← word
-  nothing (with_mode s (Each (Link (Some w))))
+  nothing (with_mode s (Each (Link (Some w) Html)))
 
 -- what is behind `LABEL`
 abbrev pub setting_label : Settings → List Item → Settings → Type 0
 setting_label s = do
   one equals_value
   q ← one quoted_value
-  nothing (with_mode s (Each (Labelled q)))
+  nothing (with_mode s (Each (Labelled q Html)))
+
+-- what is behind `AS`
+abbrev pub setting_as : Settings → List Item → Settings → Type 0
+setting_as s = do
+  one equals_value
+  e ← one ending_value
+  nothing (with_as s e)
 
 -- what is behind the word of a setting, where the tag has these settings so far
 abbrev pub set : Settings → Setting → List Item → Settings → Type 0
@@ -207,10 +233,11 @@ set s setting.Order = setting_order s
 set s setting.Delimiter = setting_delimiter s
 set s setting.Limit = setting_limit s
 set s setting.Embed = nothing (with_mode s (Each Embed))
-set s setting.Link = either (setting_found s) (nothing (with_mode s (Each (Link None))))
+set s setting.Link = either (setting_found s) (nothing (with_mode s (Each (Link None Html))))
 set s setting.Label = setting_label s
 set s setting.Count = nothing (with_mode s HowMany)
-set s (setting.Writing w) = nothing (with_mode s (Each (Written w)))
+set s setting.As = setting_as s
+set s (setting.Writing w) = nothing (with_mode s (Each (Written w Html)))
 
 -- the end of the settings
 abbrev pub no_more_settings : Settings → List Item → Settings → Type 0

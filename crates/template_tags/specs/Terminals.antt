@@ -1,6 +1,7 @@
 -- Single items, by what they stand for.
-use Rattle.std.specs.Prelude.{◌≡◌, ℕ, Bool, true, false, ◌||◌, ◌&&◌, not, List, [], ◌∷◌, nat_eq, nat_lt, length, ◌==◌, if◌then◌else◌, Option, Some, None, codes, ℤ, pos, negsuc}
+use Rattle.std.specs.Prelude.{◌≡◌, ℕ, Bool, true, false, ◌||◌, ◌&&◌, not, List, [], ◌∷◌, nat_eq, nat_lt, nat_le, length, ◌==◌, if◌then◌else◌, Option, Some, None, codes, ℤ, pos, negsuc}
 use Rattle.std.specs.Str.{bytes_eq}
+use Rattle.std.specs.List.{list_all}
 use Rattle.std.specs.Option.{is_some, is_none}
 use Rattle.sd_lex.specs.declared.token.TokenKind.{TokenKind}
 use Rattle.sd_lex.specs.declared.token.TokenKind.TheVariants as tokens
@@ -19,8 +20,14 @@ use Rattle.token_reader.specs.Terminals.{is_sign_kind}
 use Rattle.tmpl.specs.declared.Cmp.{Cmp}
 use Rattle.tmpl.specs.declared.Cmp.TheVariants as cmp
 use Rattle.tmpl.specs.declared.Expr.{Expr}
-use Rattle.tmpl.specs.declared.Mode.TheVariants.{Written, Link}
+use Rattle.tmpl.specs.declared.Mode.TheVariants.{Written, Embed, Link, Labelled, Base}
+use Rattle.tmpl.specs.declared.Mode.{Mode}
+use Rattle.tmpl.specs.declared.Writing.{Writing}
 use Rattle.tmpl.specs.declared.Writing.TheVariants as writing
+use Rattle.tmpl.specs.declared.WordRoot.TheVariants.{Here}
+use Rattle.tmpl.specs.declared.endings.Ending.{Ending}
+use Rattle.tmpl.specs.declared.endings.Ending.TheVariants.{Html}
+use Rattle.tmpl.specs.Endings.{ending_of, path_ending}
 use Rattle.tmpl.specs.declared.Order.{Order}
 use Rattle.tmpl.specs.declared.SortKey.{SortKey}
 use Rattle.tmpl.specs.Body.{Body, done, format, count}
@@ -38,8 +45,7 @@ use Rattle.template_tags.specs.declared.settings.Showing.TheVariants.{Each, HowM
 -- a word of the grammar that no tag has
 unfoldable pub is_later_word : List ℕ → Bool
 is_later_word w =
-    bytes_eq w (codes "MARKDOWN") || (bytes_eq w (codes "AS") || (bytes_eq w (codes "AT") ||
-    bytes_eq w (codes "FILE")))
+    bytes_eq w (codes "MARKDOWN") || (bytes_eq w (codes "AT") || bytes_eq w (codes "FILE"))
 
 -- the keyword that a word is of those that say how a text is written, or of those that no tag has
 unfoldable pub writing_word : List ℕ → Option Keyword
@@ -51,13 +57,14 @@ writing_word w =
     if bytes_eq w (codes "JSON") then Some (words.Writing writing.Json) else (
     if is_later_word w then Some words.Later else None))))
 
--- the keyword of a mode, or of a link's label, that a word is
+-- the keyword of a mode, of a link's label or of an ending, that a word is
 unfoldable pub mode_word : List ℕ → Option Keyword
 mode_word w =
     if bytes_eq w (codes "EMBED") then Some words.Embed else (
     if bytes_eq w (codes "LINK") then Some words.Link else (
     if bytes_eq w (codes "LABEL") then Some words.Label else (
-    if bytes_eq w (codes "COUNT") then Some words.Count else writing_word w)))
+    if bytes_eq w (codes "COUNT") then Some words.Count else (
+    if bytes_eq w (codes "AS") then Some words.As else writing_word w))))
 
 -- the keyword of a setting, or of a key, that a word is
 unfoldable pub setting_word : List ℕ → Option Keyword
@@ -91,7 +98,8 @@ abbrev pub is_put_word : List ℕ → Bool
 is_put_word w =
     bytes_eq w (codes "LAYOUT") ||
     (bytes_eq w (codes "FRAGMENT") ||
-    (bytes_eq w (codes "SNOTE") || (bytes_eq w (codes "SBODY") || bytes_eq w (codes "SINCLUDE"))))
+    (bytes_eq w (codes "SNOTE") ||
+    (bytes_eq w (codes "SBODY") || (bytes_eq w (codes "SBASE") || bytes_eq w (codes "SINCLUDE")))))
 
 -- the keyword that a word is
 unfoldable pub keyword_of : List ℕ → Option Keyword
@@ -133,6 +141,12 @@ number marks.OpenInclude = 17
 number marks.Hole = 18
 number marks.EndLayout = 19
 number marks.EndFragment = 20
+number marks.Base = 21
+number marks.At = 22
+number marks.File = 23
+number marks.As = 24
+number marks.OpenPlain = 25
+number marks.OpenJson = 26
 
 -- the kind of an item is this mark
 abbrev pub is_mark_kind : Mark → ItemKind → Bool
@@ -372,13 +386,21 @@ setting_of (Some words.Embed) = Some setting.Embed
 setting_of (Some words.Link) = Some setting.Link
 setting_of (Some words.Label) = Some setting.Label
 setting_of (Some words.Count) = Some setting.Count
+setting_of (Some words.As) = Some setting.As
 setting_of (Some (words.Writing w)) = Some (setting.Writing w)
 setting_of k = None
 
 -- a link whose label is not yet said
 abbrev pub is_bare_link : Option Showing → Bool
-is_bare_link (Some (Each (Link None))) = true
+is_bare_link (Some (Each (Link None ending))) = true
 is_bare_link m = false
+
+-- the mode may show an address: there is none, or it is a link
+abbrev pub is_address : Option Showing → Bool
+is_address None = true
+is_address (Some (Each (Link word ending))) = true
+is_address (Some (Each (Labelled label ending))) = true
+is_address m = false
 
 -- how many keys a tag has at most
 abbrev pub most_keys : ℕ
@@ -395,17 +417,19 @@ allows_order (k ∷ []) = not k.descend
 allows_order (k ∷ l ∷ keys) = false
 
 -- up to four keys, each other setting at most once, ORDER with at most one key that goes upwards, at
--- most one mode, and a label only behind a link without one
+-- most one mode, a label only behind a link without one, and an ending only without a mode or with a
+-- link
 abbrev pub allows : Settings → Setting → Bool
 allows s setting.Key = allows_key s
 allows s setting.Order = is_none s.descend && allows_order s.keys
 allows s setting.Delimiter = is_none s.delimiter
 allows s setting.Limit = is_none s.limit
-allows s setting.Embed = is_none s.mode
+allows s setting.Embed = is_none s.mode && is_none s.ending
 allows s setting.Link = is_none s.mode
 allows s setting.Label = is_bare_link s.mode
-allows s setting.Count = is_none s.mode
-allows s (setting.Writing w) = is_none s.mode
+allows s setting.Count = is_none s.mode && is_none s.ending
+allows s setting.As = is_none s.ending && is_address s.mode
+allows s (setting.Writing w) = is_none s.mode && is_none s.ending
 
 -- the setting, where it is not yet
 abbrev pub if_allowed : Settings → Option Setting → Option Setting
@@ -464,19 +488,39 @@ order_of s = record {
   delimiter = s.delimiter;
 }
 
--- the part that shows values so
-abbrev pub showing : Expr → Option Showing → Order → Body
-showing x None o = format x (Written writing.Escaped) o done
-showing x (Some (Each m)) o = format x m o done
-showing x (Some HowMany) o = count x done
+-- the mode with this ending, if it shows an address
+abbrev pub with_ending : Ending → Mode → Mode
+with_ending ending (Written w e) = Written w ending
+with_ending ending (Link word e) = Link word ending
+with_ending ending (Labelled label e) = Labelled label ending
+with_ending ending Embed = Embed
+with_ending ending Base = Base
+
+-- the part that shows values so; without a mode they are written as the template's pages have it
+abbrev pub showing : Expr → Writing → Ending → Option Showing → Order → Body
+showing x plain ending None o = format x (Written plain ending) o done
+showing x plain ending (Some (Each m)) o = format x (with_ending ending m) o done
+showing x plain ending (Some HowMany) o = count x done
 
 -- the part that shows values under these settings
-abbrev pub shown : Expr → Settings → Body
-shown x s = showing x s.mode (order_of s)
+abbrev pub shown : Expr → Writing → Settings → Body
+shown x plain s = showing x plain (or_else s.ending Html) s.mode (order_of s)
+
+-- the part that shows what addresses begin with: `@` has one value, whatever it is
+abbrev pub base_part : Body
+base_part = format (record { root = Here; word = [] }) Base
+    (record { keys = []; descend = false; limit = None; delimiter = None }) done
 
 -- before the first setting
 abbrev pub no_settings : Settings
-no_settings = record { keys = []; descend = None; limit = None; delimiter = None; mode = None }
+no_settings = record {
+  keys = [];
+  descend = None;
+  limit = None;
+  delimiter = None;
+  mode = None;
+  ending = None;
+}
 
 -- a loop's tag takes no mode
 abbrev pub loop_settings : Settings
@@ -485,8 +529,79 @@ loop_settings = record {
   descend = None;
   limit = None;
   delimiter = None;
-  mode = Some (Each (Written writing.Escaped));
+  mode = Some (Each (Written writing.Escaped Html));
+  ending = None;
 }
+
+-- ---- endings
+
+-- the ending of the name, if there is one
+abbrev pub ending_by : Option (List ℕ) → Option Ending
+ending_by None = None
+ending_by (Some name) = ending_of name
+
+-- a name that is an ending
+abbrev pub ending_value : Item → Option Ending
+ending_value i = ending_by (name_value i)
+
+-- an ending but `html`
+abbrev pub further : Option Ending → Option Ending
+further None = None
+further (Some Html) = None
+further (Some ending) = Some ending
+
+-- the same of the pages that a template makes
+abbrev pub further_value : Item → Option Ending
+further_value i = further (ending_value i)
+
+-- how values are written without a mode behind the beginning of a tag
+abbrev pub format_of : Item → Option Writing
+format_of i =
+    if is_mark marks.OpenFormat i then Some writing.Escaped else (
+    if is_mark marks.OpenPlain i then Some writing.Raw else (
+    if is_mark marks.OpenJson i then Some writing.Json else None))
+
+-- the item begins a tag that shows values
+abbrev pub is_format : Item → Bool
+is_format i = is_some (format_of i)
+
+-- ---- addresses
+
+-- A-Z, a-z, 0-9, `-` and `_`
+abbrev pub is_plain : ℕ → Bool
+is_plain b =
+    (nat_le 65 b && nat_le b 90) || ((nat_le 97 b && nat_le b 122) ||
+    ((nat_le 48 b && nat_le b 57) || (b == 45 || b == 95)))
+
+-- a segment that an AT may have
+abbrev pub is_segment : List ℕ → Bool
+is_segment [] = false
+is_segment (b ∷ bytes) =
+    not (bytes_eq (b ∷ bytes) (codes "index")) && list_all is_plain (b ∷ bytes)
+
+-- segments with slashes between them, of which none is empty or begins with a dot; `start` says that one begins here
+abbrev pub path_from : (start : Bool) → List ℕ → Bool
+path_from start [] = not start
+path_from start (b ∷ bytes) =
+    if b == 47 then not start && path_from true bytes
+    else (is_plain b || (b == 46 && not start)) && path_from false bytes
+
+-- a path that a FILE may have
+abbrev pub is_path : List ℕ → Bool
+is_path text = path_from true text && is_some (path_ending text)
+
+-- a quoted text that is so, with its place
+abbrev pub placed_value : (List ℕ → Bool) → ℕ → Option (List ℕ) → Option (List ℕ × ℕ)
+placed_value may_be place None = None
+placed_value may_be place (Some text) = if may_be text then Some (text, place) else None
+
+-- the value of an AT
+abbrev pub segment_value : Item → Option (List ℕ × ℕ)
+segment_value i = placed_value is_segment i.place (quoted_value i)
+
+-- the value of a FILE
+abbrev pub path_value : Item → Option (List ℕ × ℕ)
+path_value i = placed_value is_path i.place (quoted_value i)
 
 -- ---- variables
 

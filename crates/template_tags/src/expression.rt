@@ -9,20 +9,20 @@ ghost use Rattle.template_tags.specs.Reading.{read_dotted, read_word, read_joine
 ghost use Rattle.template_tags.specs.Reading.{read_collection, read_of_loop, read_loop, read_place, read_expr};
 ghost use Rattle.template_tags.specs.Reading.{read_fold, read_descend, read_ways, read_key};
 ghost use Rattle.template_tags.specs.Reading.{read_order, read_limit, read_delimiter, read_found};
-ghost use Rattle.template_tags.specs.Reading.{read_link, read_label, read_set};
+ghost use Rattle.template_tags.specs.Reading.{read_link, read_label, read_as, read_set};
 ghost use Rattle.template_tags.specs.Reading.{read_close, read_next, read_settings};
 
 use crate::settings::{Setting, Settings, Showing};
 use crate::tokens::{
-    descend_word_at, direction_at, dot_at, equals_at, fold_word_at, has_descend, has_dot,
-    has_equals, has_fold, has_known, has_mark, has_setting, has_unknown, joined_at, known_at,
-    label_at, limit_at, mark_at, quoted_at, setting_at,
+    descend_word_at, direction_at, dot_at, ending_at, equals_at, fold_word_at, has_descend,
+    has_dot, has_equals, has_fold, has_known, has_mark, has_setting, has_unknown, joined_at,
+    known_at, label_at, limit_at, mark_at, quoted_at, setting_at,
 };
 use crate::words::Bound;
 use sd_value::Str;
 use std::alloc::Global;
 use template_items::{Item, Mark};
-use tmpl::{Expr, Mode, SortKey, Word, WordRoot};
+use tmpl::{Ending, Expr, Mode, SortKey, Word, WordRoot};
 use token_reader::Halt;
 
 /// A dot and a label.
@@ -283,12 +283,12 @@ fn link_at(
     ensures { Gives (λ x. x.0) (λ x. x.1.now) result (read_link settings items.now) }
 {
     if !has_equals(items) {
-        let mode = Showing::Each(Mode::Link(None));
+        let mode = Showing::Each(Mode::Link(None, Ending::Html));
         return Ok((with_mode(settings, mode), items));
     }
     let (_, rest) = equals_at(items)?;
     let (word, rest) = word_at(alloc, rest)?;
-    let mode = Showing::Each(Mode::Link(Some(word)));
+    let mode = Showing::Each(Mode::Link(Some(word), Ending::Html));
     Ok((with_mode(settings, mode), rest))
 }
 
@@ -302,8 +302,18 @@ fn link_label_at(
 {
     let (_, rest) = equals_at(items)?;
     let (label, rest) = quoted_at(alloc, rest)?;
-    let mode = Showing::Each(Mode::Labelled(label));
+    let mode = Showing::Each(Mode::Labelled(label, Ending::Html));
     Ok((with_mode(settings, mode), rest))
+}
+
+#[tactic(auto, unfolding(crate::specs::Reading::read_as))]
+fn as_at(mut settings: Settings, items: &[Item]) -> Result<(Settings, &[Item]), Halt<Item>>
+    ensures { Gives (λ x. x.0) (λ x. x.1.now) result (read_as settings items.now) }
+{
+    let (_, rest) = equals_at(items)?;
+    let (ending, rest) = ending_at(rest)?;
+    settings.ending = Some(ending);
+    Ok((settings, rest))
 }
 
 /// What is behind the word of a setting.
@@ -322,9 +332,10 @@ fn set_at(
         Setting::Limit => return limit_from(settings, items),
         Setting::Link => return link_at(alloc, settings, items),
         Setting::Label => return link_label_at(alloc, settings, items),
+        Setting::As => return as_at(settings, items),
         Setting::Embed => Showing::Each(Mode::Embed),
         Setting::Count => Showing::HowMany,
-        Setting::Writing(writing) => Showing::Each(Mode::Written(writing)),
+        Setting::Writing(writing) => Showing::Each(Mode::Written(writing, Ending::Html)),
     };
     Ok((with_mode(settings, mode), items))
 }

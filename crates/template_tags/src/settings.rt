@@ -2,10 +2,12 @@
 
 ghost use Rattle.std.specs.Prelude.{◌≡◌};
 ghost use Rattle.tmpl.specs.Body.{done, part_before};
-ghost use Rattle.template_tags.specs.Terminals.{is_bare_link, allows_key, allows_order, allows, order_of, shown};
+ghost use Rattle.template_tags.specs.Terminals.{is_bare_link, is_address, allows_key, allows_order, allows, order_of, with_ending, shown};
+ghost use Rattle.template_tags.specs.Terminals.{base_part};
 
 use sd_value::Str;
-use tmpl::{Expr, Format, Mode, Order, Part, SortKey, SortKeys, Writing};
+use std::alloc::Global;
+use tmpl::{Ending, Expr, Format, Mode, Order, Part, SortKey, SortKeys, Word, WordRoot, Writing};
 
 /// What a setting is about.
 #[derive(Clone, Copy, Debug, PartialEq, Eq)]
@@ -18,6 +20,7 @@ pub enum Setting {
     Link,
     Label,
     Count,
+    As,
     Writing(Writing),
 }
 
@@ -38,6 +41,8 @@ pub struct Settings {
     pub limit: Option<usize>,
     pub delimiter: Option<Str>,
     pub mode: Option<Showing>,
+    /// The ending of the pages whose addresses are shown.
+    pub ending: Option<Ending>,
 }
 
 /// Whether the mode is LINK, and its label is not yet said.
@@ -49,8 +54,24 @@ fn is_bare_link(mode: &Option<Showing>) -> bool
         Some(showing) => match showing {
             Showing::HowMany => false,
             Showing::Each(mode) => match mode {
-                Mode::Link(word) => word.is_none(),
-                Mode::Written(_) | Mode::Embed | Mode::Labelled(_) => false,
+                Mode::Link(word, _) => word.is_none(),
+                Mode::Written(..) | Mode::Embed | Mode::Labelled(..) | Mode::Base => false,
+            },
+        },
+    }
+}
+
+/// Whether the mode may show an address: there is none, or it is a link.
+fn is_address(mode: &Option<Showing>) -> bool
+    ensures { result ≡ is_address mode.now }
+{
+    match mode {
+        None => true,
+        Some(showing) => match showing {
+            Showing::HowMany => false,
+            Showing::Each(mode) => match mode {
+                Mode::Link(..) | Mode::Labelled(..) => true,
+                Mode::Written(..) | Mode::Embed | Mode::Base => false,
             },
         },
     }
@@ -92,8 +113,10 @@ pub fn allows(settings: &Settings, setting: Setting) -> bool
         Setting::Delimiter => settings.delimiter.is_none(),
         Setting::Limit => settings.limit.is_none(),
         Setting::Label => is_bare_link(&settings.mode),
-        Setting::Embed | Setting::Link | Setting::Count | Setting::Writing(_) => {
-            settings.mode.is_none()
+        Setting::Link => settings.mode.is_none(),
+        Setting::As => settings.ending.is_none() && is_address(&settings.mode),
+        Setting::Embed | Setting::Count | Setting::Writing(_) => {
+            settings.mode.is_none() && settings.ending.is_none()
         }
     }
 }
@@ -110,23 +133,59 @@ pub fn order_of(settings: Settings) -> Order
     }
 }
 
-/// The part that shows the values.
-pub fn shown(values: Expr, mut settings: Settings) -> Part
-    ensures { part_before result done ≡ shown values settings }
+/// The mode with this ending, if it shows an address.
+fn with_ending(ending: Ending, mode: Mode) -> Mode
+    ensures { result ≡ with_ending ending mode }
+{
+    match mode {
+        Mode::Written(writing, _) => Mode::Written(writing, ending),
+        Mode::Link(word, _) => Mode::Link(word, ending),
+        Mode::Labelled(label, _) => Mode::Labelled(label, ending),
+        Mode::Embed => Mode::Embed,
+        Mode::Base => Mode::Base,
+    }
+}
+
+/// The part that shows the values; without a mode they are written as the template's pages have it.
+pub fn shown(values: Expr, plain: Writing, mut settings: Settings) -> Part
+    ensures { part_before result done ≡ shown values plain settings }
 {
     let mode = settings.mode.take();
+    let ending = settings.ending.unwrap_or(Ending::Html);
     let order = order_of(settings);
     match mode {
         Some(Showing::HowMany) => Part::Count(values),
         Some(Showing::Each(mode)) => Part::Format(Format {
             values,
-            mode,
+            mode: with_ending(ending, mode),
             order,
         }),
         None => Part::Format(Format {
             values,
-            mode: Mode::Written(Writing::Escaped),
+            mode: Mode::Written(plain, ending),
             order,
         }),
     }
+}
+
+/// The part that shows what addresses begin with: `@` has one value, whatever it is.
+pub fn base_part(alloc: Global) -> Part
+    ensures { part_before result done ≡ base_part }
+{
+    let word = Word {
+        labels: Vec::new(alloc),
+    };
+    Part::Format(Format {
+        values: Expr {
+            root: WordRoot::Here,
+            word,
+        },
+        mode: Mode::Base,
+        order: Order {
+            keys: SortKeys::none(alloc),
+            descend: false,
+            limit: None,
+            delimiter: None,
+        },
+    })
 }

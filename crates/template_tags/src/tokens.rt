@@ -11,7 +11,9 @@ ghost use Rattle.template_tags.specs.Terminals.{is_not, not_value, is_in, in_val
 ghost use Rattle.template_tags.specs.Terminals.{compare_value, setting_of, is_setting, setting_value, variable_value};
 ghost use Rattle.template_tags.specs.Terminals.{is_known, known_value, is_unknown, limit_value};
 ghost use Rattle.template_tags.specs.Terminals.{is_same, same_value, is_count, count_value, is_fold, fold_value};
-ghost use Rattle.template_tags.specs.Terminals.{is_descend, descend_value, int_value};
+ghost use Rattle.template_tags.specs.Terminals.{is_descend, descend_value, int_value, ending_value, further, further_value};
+ghost use Rattle.template_tags.specs.Terminals.{format_of, is_format, is_plain, is_segment, path_from, is_path, placed_value};
+ghost use Rattle.template_tags.specs.Terminals.{segment_value, path_value};
 
 use crate::settings::{Setting, Settings, allows};
 use crate::words::{Bound, Keyword, find, keyword_of};
@@ -19,7 +21,7 @@ use sd_lex::{Sign, TokenKind};
 use sd_value::{Datum, Str, Value};
 use std::alloc::Global;
 use template_items::{Item, ItemKind, Mark};
-use tmpl::Cmp;
+use tmpl::{Cmp, Ending, Writing, ending_of, path_ending};
 use token_reader::Halt;
 
 /// Whether this mark is next.
@@ -488,6 +490,7 @@ fn setting_of(keyword: Option<Keyword>) -> Option<Setting>
         Some(Keyword::Link) => Some(Setting::Link),
         Some(Keyword::Label) => Some(Setting::Label),
         Some(Keyword::Count) => Some(Setting::Count),
+        Some(Keyword::As) => Some(Setting::As),
         Some(Keyword::Writing(writing)) => Some(Setting::Writing(writing)),
         _ => None,
     }
@@ -603,6 +606,148 @@ pub fn known_at<'a>(items: &'a [Item], scope: &[Bound]) -> Result<(u32, &'a [Ite
     if let [first, rest @ ..] = items {
         if let Some(number) = known_value(first, scope) {
             return Ok((number, rest));
+        }
+    }
+    Err(Halt::Expected(items))
+}
+
+/// The ending that an item names.
+fn ending_value(item: &Item) -> Option<Ending>
+    ensures { result ≡ ending_value item.now }
+{
+    match &item.kind {
+        ItemKind::Token(TokenKind::Name(name)) => ending_of(name.bytes()),
+        _ => None,
+    }
+}
+
+/// An ending at the front.
+pub fn ending_at(items: &[Item]) -> Result<(Ending, &[Item]), Halt<Item>>
+    ensures { Gives (λ x. x.0) (λ x. x.1.now) result (take_one true ending_value items.now) }
+{
+    if let [first, rest @ ..] = items {
+        if let Some(ending) = ending_value(first) {
+            return Ok((ending, rest));
+        }
+    }
+    Err(Halt::Expected(items))
+}
+
+/// The ending, but `html`.
+fn further(ending: Option<Ending>) -> Option<Ending>
+    ensures { result ≡ further ending }
+{
+    match ending {
+        None | Some(Ending::Html) => None,
+        Some(other) => Some(other),
+    }
+}
+
+/// An ending but `html` at the front.
+pub fn further_at(items: &[Item]) -> Result<(Ending, &[Item]), Halt<Item>>
+    ensures { Gives (λ x. x.0) (λ x. x.1.now) result (take_one true further_value items.now) }
+{
+    if let [first, rest @ ..] = items {
+        if let Some(ending) = further(ending_value(first)) {
+            return Ok((ending, rest));
+        }
+    }
+    Err(Halt::Expected(items))
+}
+
+/// How values are written without a mode, if the item begins a tag that shows them.
+fn format_of(item: &Item) -> Option<Writing>
+    ensures { result ≡ format_of item.now }
+{
+    match &item.kind {
+        ItemKind::Mark(Mark::OpenFormat) => Some(Writing::Escaped),
+        ItemKind::Mark(Mark::OpenPlain) => Some(Writing::Raw),
+        ItemKind::Mark(Mark::OpenJson) => Some(Writing::Json),
+        _ => None,
+    }
+}
+
+/// Whether a tag that shows values is next.
+pub fn has_format(items: &[Item]) -> bool
+    ensures { result ≡ starts is_format items.now }
+{
+    match items {
+        [] => false,
+        [first, ..] => format_of(first).is_some(),
+    }
+}
+
+/// The beginning of a tag that shows values: how they are written without a mode.
+pub fn format_at(items: &[Item]) -> Result<(Writing, &[Item]), Halt<Item>>
+    ensures { Gives (λ x. x.0) (λ x. x.1.now) result (take_one true format_of items.now) }
+{
+    if let [first, rest @ ..] = items {
+        if let Some(writing) = format_of(first) {
+            return Ok((writing, rest));
+        }
+    }
+    Err(Halt::Expected(items))
+}
+
+/// A-Z, a-z, 0-9, `-` and `_`.
+fn is_plain(b: u8) -> bool
+    ensures { result ≡ is_plain b }
+{
+    b.is_ascii_uppercase() || b.is_ascii_lowercase() || b.is_ascii_digit() || b == b'-' || b == b'_'
+}
+
+/// Whether the text is a segment that an AT may have.
+pub fn is_segment(text: &[u8]) -> bool
+    ensures { result ≡ is_segment text.now }
+{
+    !text.is_empty() && text != b"index".as_slice() && text.iter().all(|b| is_plain(*b))
+}
+
+/// Whether the text is a path that a FILE may have: segments, of which none begins with a dot, the last with an ending of the
+/// table.
+pub fn is_path(text: &[u8]) -> bool
+    ensures { result ≡ is_path text.now }
+{
+    let mut start = true;
+    for b in text {
+        if *b == b'/' {
+            if start {
+                return false;
+            }
+            start = true;
+        } else {
+            if !(is_plain(*b) || (*b == b'.' && !start)) {
+                return false;
+            }
+            start = false;
+        }
+    }
+    !start && path_ending(text).is_some()
+}
+
+/// A segment at the front, with its place.
+pub fn segment_at(alloc: Global, items: &[Item]) -> Result<((Str, u64), &[Item]), Halt<Item>>
+    ensures { Gives (λ x. x.0) (λ x. x.1.now) result (take_one true segment_value items.now) }
+{
+    if let [first, rest @ ..] = items {
+        if let ItemKind::Token(TokenKind::Quoted(text)) = &first.kind {
+            if is_segment(text.bytes()) {
+                return Ok(((text.copy(alloc)?, first.place), rest));
+            }
+        }
+    }
+    Err(Halt::Expected(items))
+}
+
+/// A path at the front, with its place.
+pub fn path_at(alloc: Global, items: &[Item]) -> Result<((Str, u64), &[Item]), Halt<Item>>
+    ensures { Gives (λ x. x.0) (λ x. x.1.now) result (take_one true path_value items.now) }
+{
+    if let [first, rest @ ..] = items {
+        if let ItemKind::Token(TokenKind::Quoted(text)) = &first.kind {
+            if is_path(text.bytes()) {
+                return Ok(((text.copy(alloc)?, first.place), rest));
+            }
         }
     }
     Err(Halt::Expected(items))

@@ -32,6 +32,7 @@ pub enum Keyword {
     Link,
     Label,
     Count,
+    As,
     /// The mode that shows the text written so.
     Writing(Writing),
     /// A word that no tag has.
@@ -57,6 +58,7 @@ fn is_put_word(word: &[u8]) -> bool
         || word == b"FRAGMENT".as_slice()
         || word == b"SNOTE".as_slice()
         || word == b"SBODY".as_slice()
+        || word == b"SBASE".as_slice()
         || word == b"SINCLUDE".as_slice()
 }
 
@@ -124,7 +126,7 @@ fn setting_word(word: &[u8]) -> Option<Keyword>
     }
 }
 
-/// The keyword of a mode, or of a link's label, that this word is.
+/// The keyword of a mode, of a link's label or of an ending, that this word is.
 #[tactic(auto, unfolding(crate::specs::Terminals::mode_word))]
 fn mode_word(word: &[u8]) -> Option<Keyword>
     ensures { result ≡ mode_word word.now }
@@ -137,6 +139,8 @@ fn mode_word(word: &[u8]) -> Option<Keyword>
         Some(Keyword::Label)
     } else if word == b"COUNT".as_slice() {
         Some(Keyword::Count)
+    } else if word == b"AS".as_slice() {
+        Some(Keyword::As)
     } else {
         writing_word(word)
     }
@@ -168,10 +172,7 @@ fn writing_word(word: &[u8]) -> Option<Keyword>
 fn is_later_word(word: &[u8]) -> bool
     ensures { result ≡ is_later_word word.now }
 {
-    word == b"MARKDOWN".as_slice()
-        || word == b"AS".as_slice()
-        || word == b"AT".as_slice()
-        || word == b"FILE".as_slice()
+    word == b"MARKDOWN".as_slice() || word == b"AT".as_slice() || word == b"FILE".as_slice()
 }
 
 /// A loop's variable, and the number of the loop.

@@ -17,11 +17,15 @@ use Rattle.tests_certificates.specs.declared.links.QueryLink.{QueryLink}
 
 -- the link without its place, and the conditions of its chain
 abbrev pub placed_link : QueryLink → PlacedLink
-placed_link k = record { conditions = k.chain.now.conditions; link = link_of k.link.now }
+placed_link k = record {
+  conditions = k.chain.now.conditions;
+  nones = k.chain.now.nones;
+  link = link_of k.link.now;
+}
 
 -- the chain's variables are those of its conditions
 abbrev pub HasOwnVariables : Chain → Type 0
-HasOwnVariables c = c.variables ≡ variables_of c.conditions
+HasOwnVariables c = c.variables ≡ variables_of c.conditions c.nones
 
 -- these are the links of the query in their order, each with the variables of its conditions
 pub record AreLinks (q : Scope) (links : List QueryLink) : Type 0 where
@@ -39,7 +43,7 @@ ends_at (Some h) k = is_of h k.link.target
 
 -- the term without its place, and the conditions of its chain
 abbrev pub mention_of : Chain → WrittenTerm → Mention
-mention_of c t = record { conditions = c.conditions; term = term_of t }
+mention_of c t = record { conditions = c.conditions; nones = c.nones; term = term_of t }
 
 -- the names make a use of this link, which is by l, is good and starts at the term
 abbrev pub shown_on : Tests → ℕ → List Condition → SkolemTerm → Name → (PlacedLink → Bool)

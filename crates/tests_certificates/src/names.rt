@@ -14,24 +14,29 @@ use crate::links::QueryLink;
 use certificate_search::{renamed, renamed_term};
 use entailment::{Judge, is_entailed};
 use query_parts::same_terms;
-use query_spec::Variable;
+use query_spec::{Sort, Variable};
 use sd_value::{NoMemory, Str};
 use std::alloc::Global;
 use struql_ast::{Chain, Condition, SkolemTerm, Target};
 
-fn have_one_sort(one: bool, other: bool) -> bool
+fn have_one_sort(one: Sort, other: Sort) -> bool
     ensures { result ≡ same_sort one other }
 {
-    if one { other } else { !other }
+    match (one, other) {
+        (Sort::Node, Sort::Node) | (Sort::Arc, Sort::Arc) | (Sort::Computed, Sort::Computed) => {
+            true
+        }
+        _ => false,
+    }
 }
 
-// Whether one of the variables has the name, and is an arc variable or not as this one is.
+// Whether one of the variables has the name, and the sort of this one.
 fn is_one(targets: &[Variable], variable: &Variable, name: &Str) -> bool
     ensures { result ≡ is_sorted targets.now variable.now name.now }
 {
     targets
         .iter()
-        .any(|w| w.name == *name && have_one_sort(w.arc, variable.arc))
+        .any(|w| w.name == *name && have_one_sort(w.sort, variable.sort))
 }
 
 fn are_some(targets: &[Variable], variables: &[Variable], names: &[Str]) -> bool

@@ -5,12 +5,14 @@ use query_scoping::scopes;
 use sd_value::Str;
 use std::test::Fail;
 use template_reader::read_templates;
+use tmpl::Ending;
 
-// A query, templates and a function, and its footprint.
+// A query, templates, a function and an ending, and the footprint of its pages that end so.
 struct FootprintRow {
     query: &'static [u8],
     templates: &'static [u8],
     function: &'static [u8],
+    ending: Ending,
     every: bool,
     blocks: &'static [usize],
     labels: &'static [&'static [u8]],
@@ -26,11 +28,15 @@ const ITSELF: &[u8] = b"INPUT D WHERE A(x) CREATE F(x) LINK F(x) -> \"t\" -> x O
 const TWO: &[u8] = b"INPUT D { WHERE A(x), x -> \"t\" -> y CREATE F(x) LINK F(x) -> \"t\" -> y } \
     { WHERE B(z), z -> \"k\" -> w CREATE G(z) LINK G(z) -> \"k\" -> w COLLECT Gs(G(z)) } OUTPUT S";
 
+const BOTH: &[u8] =
+    b"<TEMPLATE F><SFMT @t></TEMPLATE><TEMPLATE F AS=txt><SFMT @t KEY=k></TEMPLATE>";
+
 const FOOTPRINTS: &[FootprintRow] = &[
     FootprintRow {
         query: SHOWN,
         templates: b"<TEMPLATE F><SFMT @t></TEMPLATE>",
         function: b"F",
+        ending: Ending::Html,
         every: false,
         blocks: &[0],
         labels: &[],
@@ -41,6 +47,7 @@ const FOOTPRINTS: &[FootprintRow] = &[
         query: ITSELF,
         templates: b"<TEMPLATE F><SIF @t.t>y</SIF></TEMPLATE>",
         function: b"F",
+        ending: Ending::Html,
         every: false,
         blocks: &[0],
         labels: &[b"t"],
@@ -51,6 +58,7 @@ const FOOTPRINTS: &[FootprintRow] = &[
         query: TWO,
         templates: b"<TEMPLATE F><SFMT @t></TEMPLATE>",
         function: b"F",
+        ending: Ending::Html,
         every: false,
         blocks: &[0],
         labels: &[],
@@ -61,6 +69,7 @@ const FOOTPRINTS: &[FootprintRow] = &[
         query: TWO,
         templates: b"<TEMPLATE F><SFMT @t KEY=k></TEMPLATE>",
         function: b"F",
+        ending: Ending::Html,
         every: false,
         blocks: &[0, 1],
         labels: &[b"k"],
@@ -71,6 +80,7 @@ const FOOTPRINTS: &[FootprintRow] = &[
         query: TWO,
         templates: b"<TEMPLATE F><SFMT @t LINK=k></TEMPLATE>",
         function: b"F",
+        ending: Ending::Html,
         every: false,
         blocks: &[0, 1],
         labels: &[b"k"],
@@ -81,6 +91,7 @@ const FOOTPRINTS: &[FootprintRow] = &[
         query: TWO,
         templates: b"<TEMPLATE F><SFOR v IN #Gs.u><SFMT v.a></SFOR></TEMPLATE>",
         function: b"F",
+        ending: Ending::Html,
         every: false,
         blocks: &[0, 1],
         labels: &[b"a", b"u"],
@@ -91,6 +102,7 @@ const FOOTPRINTS: &[FootprintRow] = &[
         query: TWO,
         templates: b"<TEMPLATE F><SFMT @t EMBED></TEMPLATE>",
         function: b"F",
+        ending: Ending::Html,
         every: true,
         blocks: &[],
         labels: &[],
@@ -101,11 +113,34 @@ const FOOTPRINTS: &[FootprintRow] = &[
         query: TWO,
         templates: b"<TEMPLATE F><SFMT @t></TEMPLATE>",
         function: b"G",
+        ending: Ending::Html,
         every: false,
         blocks: &[1],
         labels: &[],
         collections: &[],
         reason: "A function without a template rests on the blocks of its terms.",
+    },
+    FootprintRow {
+        query: TWO,
+        templates: BOTH,
+        function: b"F",
+        ending: Ending::Html,
+        every: false,
+        blocks: &[0],
+        labels: &[],
+        collections: &[],
+        reason: "Its own template doesn't read k.",
+    },
+    FootprintRow {
+        query: TWO,
+        templates: BOTH,
+        function: b"F",
+        ending: Ending::Txt,
+        every: false,
+        blocks: &[0, 1],
+        labels: &[b"k"],
+        collections: &[],
+        reason: "Its template of the other ending reads k at any value.",
     },
 ];
 
@@ -122,11 +157,11 @@ fn are_names(found: &[Str], wanted: &[&[u8]]) -> bool {
 fn functions_have_their_footprints(rt: HostRuntime) -> Result<(), Fail> {
     let alloc = rt.alloc();
     for row in FOOTPRINTS {
-        let checked = read_query(alloc, row.query, 65_536)?;
-        let blocks = scopes(alloc, &checked)?;
+        let query = read_query(alloc, row.query, 65_536)?;
+        let blocks = scopes(alloc, &query.checked)?;
         let templates = read_templates(alloc, row.templates, 65_536)?;
         let function = Str::new(alloc, row.function)?;
-        let parts = footprint(alloc, &blocks, &templates, &function)?;
+        let parts = footprint(alloc, &blocks, &templates, &function, row.ending)?;
         let are_labels = are_names(parts.labels.as_slice(), row.labels);
         let are_collections = are_names(parts.collections.as_slice(), row.collections);
         assert_eq!(rt; parts.every, row.every, "{}", row.reason);

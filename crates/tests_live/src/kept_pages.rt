@@ -8,8 +8,9 @@ use crate::mirrored::Mirror;
 use crate::numbers::{Numbers, one_of};
 use bindings::StoreAsker;
 use edit_reader::read_edit;
+use made_data::{Made, Making};
 use page_cache::Cached;
-use page_spec::Outcome;
+use page_spec::{Outcome, PageName};
 use query_blocks::QueryBlocks;
 use query_reader::read_query;
 use query_scoping::scopes;
@@ -86,17 +87,17 @@ fn first_data(alloc: Global) -> Result<Mirror, Fail> {
 }
 
 // A page of F and one of G in turn.
-fn all_terms(alloc: Global) -> Result<Vec<Term>, NoMemory> {
-    let mut terms = Vec::new(alloc);
+fn all_pages(alloc: Global) -> Result<Vec<PageName>, NoMemory> {
+    let mut names = Vec::new(alloc);
     for number in 0..NODES {
         let function = if number % 2 == 0 { b"F" } else { b"G" };
         let node = name(alloc, number / 2 + number % 2 * (NODES / 2))?;
-        terms.push(Term {
+        names.push(PageName::own(Term {
             function: Str::new(alloc, function)?,
             args: Args::new(alloc, vec![in alloc; Datum::Node(node)]?)?,
-        })?;
+        }))?;
     }
-    Ok(terms)
+    Ok(names)
 }
 
 fn is_same(page: &Outcome, other: &Outcome) -> bool {
@@ -112,26 +113,26 @@ fn check_pages<V: Versions, P: Pages>(
     alloc: Global,
     pages: &mut V,
     whole: &mut P,
-    terms: &[Term],
+    names: &[PageName],
 ) -> Result<(), Fail>
     requires pages { V.Own pages.old }
     requires whole { P.Own whole.old }
     ensures { V.Own pages.new }
 {
-    for term in terms {
-        let page = pages.page(alloc, term)?;
-        let made = whole.page(alloc, term)?;
+    for name in names {
+        let page = pages.page(alloc, name)?;
+        let made = whole.page(alloc, name)?;
         check(is_same(&page, &made), "a page isn't that of the whole site")?;
     }
     Ok(())
 }
 
-// A site's query and templates, and its terms.
+// A site's query and templates, and its pages.
 #[derive(Drop)]
 struct Site<'a> {
     blocks: &'a QueryBlocks,
     templates: &'a Templates,
-    terms: &'a [Term],
+    names: &'a [PageName],
 }
 
 // Makes an edit on both sides, and compares all pages.
@@ -154,7 +155,7 @@ fn check_edit<V: Versions>(
     mirror.edit(alloc, read_edit(alloc, text.bytes(), 100)?)?;
     let asker = StoreAsker::of(mirror.index(alloc)?);
     let mut whole = Whole::of(alloc, asker, site.blocks, site.templates)?;
-    check_pages(alloc, pages, &mut whole, site.terms)
+    check_pages(alloc, pages, &mut whole, site.names)
 }
 
 // Some edits, one after another. Tells how many pages were found kept.
@@ -201,15 +202,22 @@ fn check_kept<V: Versions + Drop>(
 // So many edits by the generator from a seed. Neither all pages nor none are found kept.
 fn check_run(alloc: Global, source: PageSource, seed: u64, count: u64) -> Result<(), Fail> {
     let query = read_query(alloc, QUERY, 65_536)?;
-    let blocks = scopes(alloc, &query)?;
+    let blocks = scopes(alloc, &query.checked)?;
     let templates = read_templates(alloc, TEMPLATES, 65_536)?;
-    let terms = all_terms(alloc)?;
-    let graph = first_data(alloc)?.builder(alloc)?.finish(alloc)?;
-    let pages = SitePages::of(alloc, graph, &None, &blocks, &templates, source)?;
+    let names = all_pages(alloc)?;
+    let made = Made {
+        graph: first_data(alloc)?.builder(alloc)?.finish(alloc)?,
+        stated: None,
+    };
+    let making = Making {
+        first: None,
+        orders: Vec::new(alloc),
+    };
+    let pages = SitePages::of(alloc, made, &making, &blocks, &templates, source)?;
     let site = Site {
         blocks: &blocks,
         templates: &templates,
-        terms: terms.as_slice(),
+        names: names.as_slice(),
     };
     let hits = check_kept(alloc, pages, &site, seed, count)?;
     let asked = count.saturating_sub(1).saturating_mul(NODES);

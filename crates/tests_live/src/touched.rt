@@ -6,6 +6,7 @@ use query_scoping::scopes;
 use sd_value::Str;
 use std::test::Fail;
 use template_reader::read_templates;
+use tmpl::Ending;
 
 // A query with the function F, its template, an edit, and whether the edit can touch a page of F.
 struct TouchRow {
@@ -128,11 +129,11 @@ fn edits_touch_what_rests_on_them(rt: HostRuntime) -> Result<(), Fail> {
     let alloc = rt.alloc();
     let function = Str::new(alloc, b"F")?;
     for row in TOUCHES {
-        let checked = read_query(alloc, row.query, 65_536)?;
-        let blocks = scopes(alloc, &checked)?;
+        let query = read_query(alloc, row.query, 65_536)?;
+        let blocks = scopes(alloc, &query.checked)?;
         let templates = read_templates(alloc, row.templates, 65_536)?;
         let edit = read_edit(alloc, row.edit, 65_536)?;
-        let touches = touches_pages(alloc, &blocks, &templates, &function, &edit)?;
+        let touches = touches_pages(alloc, &blocks, &templates, &function, Ending::Html, &edit)?;
         assert_eq!(rt; touches, row.touches, "{}", row.reason);
     }
     Ok(())

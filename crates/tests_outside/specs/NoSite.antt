@@ -1,6 +1,4 @@
--- A site without terms, and no templates.
-use Rattle.std.specs.Prelude.{[]}
-use Rattle.tmpl.specs.Body.{TemplateFile}
+-- A site without terms.
 use Rattle.page_spec.specs.Site.{Site}
 
 abbrev pub no_site : Site
@@ -10,6 +8,3 @@ no_site = record {
   collected = λ name v. ⊥;
   member = λ name node. ⊥;
 }
-
-abbrev pub no_templates : TemplateFile
-no_templates = record { bodies = []; functions = []; collections = [] }

@@ -1,92 +1,179 @@
 // Addresses by example.
 use crate::inputs::{check, check_row, check_text, term};
-use address::{FileRefusal, address, file_of, push_shown, show, term_of};
+use address::{FileRefusal, address, file_of, page_ending, page_of, push_shown, told, told_page};
+use page_spec::PageName;
 use sd_value::{Datum, NoMemory, Str, Term, Value};
 use std::alloc::Global;
 use std::test::Fail;
+use template_reader::read_templates;
+use tmpl::{Ending, Templates};
 
-// What a target names.
-enum Named {
-    // The term of this address.
-    Address(&'static [u8]),
-    Nothing,
-    // The term of `F` and this text.
-    Text(&'static [u8]),
-    // The term of `F` and this number.
-    Number(i64),
-}
-
-// The target of a request, the function of the term for `/`, and what the target names.
+// Templates, the function of the root, what addresses begin with, a target, and the address of the page that it names.
 struct TargetRow {
-    target: &'static [u8],
+    templates: &'static [u8],
     root: Option<&'static [u8]>,
-    named: Named,
+    base: &'static [u8],
+    target: &'static [u8],
+    named: Option<&'static [u8]>,
 }
 
-const TARGETS: &[TargetRow] = &[
+const fn row(
+    templates: &'static [u8],
+    target: &'static [u8],
+    named: Option<&'static [u8]>,
+) -> TargetRow {
     TargetRow {
-        target: b"/%59earPage/i1998.html?x=1",
+        templates,
         root: None,
-        named: Named::Address(b"/YearPage/i1998.html"),
-    },
-    TargetRow {
-        target: b"HTTP://a?x/YearPage/i1998.html",
-        root: None,
-        named: Named::Address(b"/YearPage/i1998.html"),
-    },
-    TargetRow {
-        target: b"/F/t%252F.html",
-        root: None,
-        named: Named::Nothing,
-    },
-    TargetRow {
-        target: b"/",
-        root: None,
-        named: Named::Nothing,
-    },
+        base: b"/",
+        target,
+        named,
+    }
+}
+
+const F: &[u8] = b"<TEMPLATE F>f</TEMPLATE>";
+
+const AT: &[u8] = b"<TEMPLATE P AT=\"people\">p</TEMPLATE><TEMPLATE P AS=bib>b</TEMPLATE>";
+
+const FILE: &[u8] =
+    b"<TEMPLATE Feed FILE=\"news/feed.xml\">x</TEMPLATE><TEMPLATE Feed AS=json>j</TEMPLATE>";
+
+const PLAIN: &[TargetRow] = &[
+    row(F, b"/%46/i1998.html?x=1", Some(b"/F/i1998.html")),
+    row(F, b"HTTP://a?x/F/i1998.html", Some(b"/F/i1998.html")),
+    row(F, b"/F/t%252F.html", None),
+    row(F, b"/", None),
     // A text with a blank, and numbers in other forms.
-    TargetRow {
-        target: b"/F/ta%20b.html",
-        root: None,
-        named: Named::Nothing,
-    },
-    TargetRow {
-        target: b"/F/i01.html",
-        root: None,
-        named: Named::Nothing,
-    },
-    TargetRow {
-        target: b"/F/i9223372036854775808.html",
-        root: None,
-        named: Named::Nothing,
-    },
-    TargetRow {
-        target: b"http://a",
-        root: Some(b"RootPage"),
-        named: Named::Address(b"/RootPage.html"),
-    },
-    TargetRow {
-        target: b"/index%2Ehtml",
-        root: Some(b"RootPage"),
-        named: Named::Address(b"/RootPage.html"),
-    },
+    row(F, b"/F/ta%20b.html", None),
+    row(F, b"/F/i01.html", None),
+    row(F, b"/F/i9223372036854775808.html", None),
     // The blank as it is escaped, and its escape escaped once more.
+    row(F, b"/F/ta~20b.html", Some(b"/F/ta~20b.html")),
+    row(F, b"/F/ta%7E20b.html", Some(b"/F/ta~20b.html")),
+    row(
+        F,
+        b"/F/i-9223372036854775808.html",
+        Some(b"/F/i-9223372036854775808.html"),
+    ),
+    // No template makes these.
+    row(F, b"/G.html", None),
+    row(F, b"/F.bib", None),
+    row(F, b"/F.php", None),
+];
+
+const CHOSEN: &[TargetRow] = &[
+    row(AT, b"/people.html", Some(b"/people.html")),
+    row(AT, b"/people/5.html", Some(b"/people/5.html")),
+    row(AT, b"/people/~t5.html", Some(b"/people/~t5.html")),
+    row(AT, b"/people/05.html", Some(b"/people/05.html")),
+    row(AT, b"/people/-0.bib", Some(b"/people/-0.bib")),
+    row(AT, b"/people/~t.html", Some(b"/people/~t.html")),
+    row(
+        AT,
+        b"/people/~ua/~fb/~nc/x~20y.bib",
+        Some(b"/people/~ua/~fb/~nc/x~20y.bib"),
+    ),
+    row(
+        AT,
+        b"/people/9223372036854775808.html",
+        Some(b"/people/9223372036854775808.html"),
+    ),
+    // Not as they are written.
+    row(AT, b"/people/~tx.html", None),
+    row(AT, b"/people/.html", None),
+    row(AT, b"/people/~x.html", None),
+    row(AT, b"/people/~i5.html", None),
+    row(AT, b"/people/5.json", None),
+    row(AT, b"/P/i5.html", None),
+    row(AT, b"/P.html", None),
+    row(FILE, b"/news/feed.xml", Some(b"/news/feed.xml")),
+    row(FILE, b"/news/feed.xml/", None),
+    row(FILE, b"/news/feed.html", None),
+    row(FILE, b"/Feed.html", None),
+    row(FILE, b"/Feed.json", Some(b"/Feed.json")),
+];
+
+const ROOTS: &[TargetRow] = &[
     TargetRow {
-        target: b"/F/ta~20b.html",
-        root: None,
-        named: Named::Text(b"a b"),
+        templates: F,
+        root: Some(b"F"),
+        base: b"/",
+        target: b"http://a",
+        named: Some(b"/F.html"),
     },
     TargetRow {
-        target: b"/F/ta%7E20b.html",
-        root: None,
-        named: Named::Text(b"a b"),
+        templates: F,
+        root: Some(b"F"),
+        base: b"/",
+        target: b"/index%2Ehtml",
+        named: Some(b"/F.html"),
     },
     TargetRow {
-        target: b"/F/i-9223372036854775808.html",
+        templates: FILE,
+        root: Some(b"Feed"),
+        base: b"/a/b/",
+        target: b"/a/b/",
+        named: Some(b"/news/feed.xml"),
+    },
+    TargetRow {
+        templates: F,
+        root: Some(b"F"),
+        base: b"/a/",
+        target: b"/a/index.html",
+        named: Some(b"/F.html"),
+    },
+    TargetRow {
+        templates: F,
         root: None,
-        named: Named::Number(-9223372036854775808),
+        base: b"/a/",
+        target: b"/a/F/i1.html",
+        named: Some(b"/F/i1.html"),
+    },
+    TargetRow {
+        templates: F,
+        root: None,
+        base: b"/a/",
+        target: b"/F/i1.html",
+        named: Some(b"/F/i1.html"),
+    },
+    TargetRow {
+        templates: F,
+        root: None,
+        base: b"/a/",
+        target: b"/a",
+        named: None,
+    },
+    // What begins with the base loses it, also where an AT is the same.
+    TargetRow {
+        templates: AT,
+        root: None,
+        base: b"/people/",
+        target: b"/people/5.html",
+        named: None,
+    },
+    TargetRow {
+        templates: AT,
+        root: None,
+        base: b"/people/",
+        target: b"/people/people/5.html",
+        named: Some(b"/people/5.html"),
     },
 ];
+
+// The templates of a text in a site of this root, whose addresses begin so.
+fn templates_of(
+    alloc: Global,
+    text: &[u8],
+    root: Option<&'static [u8]>,
+    base: &[u8],
+) -> Result<Templates, Fail> {
+    let templates = read_templates(alloc, text, 65_536).map_err(|_| Fail::new("templates"))?;
+    let root = match root {
+        Some(root) => Some(Str::new(alloc, root)?),
+        None => None,
+    };
+    Ok(templates.in_site(root, Str::new(alloc, base)?))
+}
 
 // The term of a function with one argument.
 fn one(alloc: Global, function: &[u8], arg: Datum) -> Result<Term, NoMemory> {
@@ -95,40 +182,38 @@ fn one(alloc: Global, function: &[u8], arg: Datum) -> Result<Term, NoMemory> {
     term(alloc, function, args)
 }
 
-// Whether this is the term of the address, where there is one.
-fn has_address(alloc: Global, term: Option<Term>, wanted: &[u8]) -> Result<bool, NoMemory> {
-    let Some(term) = term else {
-        return Ok(false);
-    };
-    let mut out = Vec::new(alloc);
-    address(alloc, &term, &mut out)?;
-    Ok(out.as_slice() == wanted)
-}
-
-// Whether this is the term that is to be named.
-fn is_named(alloc: Global, term: Option<Term>, named: &Named) -> Result<bool, NoMemory> {
-    let arg = match named {
-        Named::Address(wanted) => return has_address(alloc, term, wanted),
-        Named::Nothing => return Ok(term.is_none()),
-        Named::Text(text) => Datum::Text(Str::new(alloc, text)?),
-        Named::Number(number) => Datum::Int(*number),
-    };
-    Ok(term == Some(one(alloc, b"F", arg)?))
-}
-
 // Whether the target names what its row says.
-fn names_it(alloc: Global, row: &TargetRow) -> Result<bool, NoMemory> {
-    let root = match row.root {
-        Some(root) => Some(Str::new(alloc, root)?),
-        None => None,
-    };
-    let term = term_of(alloc, row.target, root.as_ref())?;
-    is_named(alloc, term, &row.named)
+fn names_it(alloc: Global, row: &TargetRow) -> Result<bool, Fail> {
+    let templates = templates_of(alloc, row.templates, row.root, row.base)?;
+    match (page_of(alloc, row.target, &templates)?, row.named) {
+        (None, None) => Ok(true),
+        (Some(page), Some(wanted)) => {
+            let address = told_page(alloc, &templates, &page)?;
+            Ok(address.bytes() == wanted)
+        }
+        _ => Ok(false),
+    }
 }
 
 #[test]
-fn a_target_names_its_term(rt: HostRuntime) -> Result<(), Fail> {
-    for row in TARGETS {
+fn a_target_names_a_page(rt: HostRuntime) -> Result<(), Fail> {
+    for row in PLAIN {
+        check_row(names_it(rt.alloc(), row)?, row.target)?;
+    }
+    Ok(())
+}
+
+#[test]
+fn a_target_names_a_page_by_its_templates(rt: HostRuntime) -> Result<(), Fail> {
+    for row in CHOSEN {
+        check_row(names_it(rt.alloc(), row)?, row.target)?;
+    }
+    Ok(())
+}
+
+#[test]
+fn a_target_names_the_root_and_what_is_below_the_base(rt: HostRuntime) -> Result<(), Fail> {
+    for row in ROOTS {
         check_row(names_it(rt.alloc(), row)?, row.target)?;
     }
     Ok(())
@@ -158,11 +243,12 @@ const FILES: &[FileRow] = &[
 ];
 
 // Whether the file of a page of a text is named as its row says.
-fn has_file(alloc: Global, row: &FileRow) -> Result<bool, NoMemory> {
+fn has_file(alloc: Global, row: &FileRow) -> Result<bool, Fail> {
+    let templates = templates_of(alloc, F, None, b"/")?;
     let text = Datum::Text(Str::of(alloc, b"a".repeat(alloc, row.letters)?)?);
-    let term = one(alloc, b"F", text)?;
+    let page = PageName::own(one(alloc, b"F", text)?);
     let mut out = Vec::new(alloc);
-    let found = file_of(alloc, &term, &mut out);
+    let found = file_of(alloc, &templates, &page, &mut out);
     Ok(found == row.end && out.len() == row.length)
 }
 
@@ -174,18 +260,45 @@ fn a_file_is_named_unless_its_name_is_too_long(rt: HostRuntime) -> Result<(), Fa
     Ok(())
 }
 
-// A number, and a page in both ways, one after the other.
-fn shown(alloc: Global) -> Result<Vec<u8>, NoMemory> {
+// A number, and a page in each way, one after the other.
+fn shown(alloc: Global) -> Result<Vec<u8>, Fail> {
+    let templates = templates_of(alloc, AT, None, b"/a/")?;
     let node = Datum::Node(Str::new(alloc, b"x/.")?);
     let page = Value::Page(one(alloc, b"P", node)?);
     let mut out = Vec::new(alloc);
-    show(alloc, &Value::Data(Datum::Int(-5)), &mut out)?;
-    show(alloc, &page, &mut out)?;
-    push_shown(alloc, &page, &mut out)?;
+    push_shown(
+        alloc,
+        &templates,
+        Ending::Bib,
+        &Value::Data(Datum::Int(-5)),
+        &mut out,
+    )?;
+    push_shown(alloc, &templates, Ending::Bib, &page, &mut out)?;
+    out.extend_from_slice(told(alloc, &templates, &page)?.bytes())?;
+    if let Value::Page(term) = &page {
+        address(alloc, term, &mut out)?;
+    }
     Ok(out)
 }
 
 #[test]
 fn values_are_shown(rt: HostRuntime) -> Result<(), Fail> {
-    check_text(&shown(rt.alloc())?, b"-5/P/nx~2F~2E.html/P/nx~2F~2E.html")
+    check_text(
+        &shown(rt.alloc())?,
+        b"-5/a/people/~nx~2F~2E.bib/people/~nx~2F~2E.html/P/nx~2F~2E.html",
+    )
+}
+
+#[test]
+fn a_page_is_what_its_address_ends_in(rt: HostRuntime) -> Result<(), Fail> {
+    let alloc = rt.alloc();
+    let templates = templates_of(alloc, FILE, None, b"/")?;
+    let term = term(alloc, b"Feed", Vec::new(alloc))?;
+    let feed = PageName::own(term.copy(alloc)?);
+    let other = PageName {
+        term,
+        ending: Ending::Json,
+    };
+    check(page_ending(&templates, &feed) == Ending::Xml, "the feed")?;
+    check(page_ending(&templates, &other) == Ending::Json, "the other")
 }

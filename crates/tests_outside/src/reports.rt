@@ -1,9 +1,9 @@
 // Lines as they are printed.
-use crate::inputs::{check, check_text, term};
+use crate::inputs::{check, check_text};
 use edge_io::MemSink;
 use happenings::Stream;
 use run_report::{PageKind, Place, Status, report};
-use sd_value::{NoMemory, Str, Value};
+use sd_value::{NoMemory, Str};
 use std::alloc::Global;
 use std::test::Fail;
 
@@ -17,8 +17,8 @@ fn refused(alloc: Global) -> Result<Status, NoMemory> {
 
 fn cyclic(alloc: Global) -> Result<Status, NoMemory> {
     Ok(Status::PageFault {
-        term: term(alloc, b"A", Vec::new(alloc))?,
-        kind: PageKind::Cyclic(Value::Page(term(alloc, b"B", Vec::new(alloc))?)),
+        page: Str::new(alloc, b"/A.html")?,
+        kind: PageKind::Cyclic(Str::new(alloc, b"/B.html")?),
     })
 }
 

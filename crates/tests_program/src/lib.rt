@@ -3,6 +3,10 @@
 #![tactic(auto)]
 
 #[cfg(test)]
+mod addresses;
+#[cfg(test)]
+mod calls;
+#[cfg(test)]
 mod checks;
 #[cfg(test)]
 mod composed;
@@ -27,6 +31,9 @@ mod lints;
 #[cfg(test)]
 mod logs;
 #[cfg(test)]
+mod nones;
+#[cfg(test)]
+mod orders;
 mod pages;
 #[cfg(test)]
 mod refusing;

@@ -2,7 +2,7 @@
 ghost use Rattle.std.specs.Prelude.{IfOk};
 ghost use Rattle.query_blocks.specs.Blocks.{AreCheckedBlocks};
 
-use address::term_of;
+use address::page_of;
 use bindings::StoreAsker;
 use index_store::IndexStore;
 use query_blocks::QueryBlocks;
@@ -58,7 +58,8 @@ pub fn asker_of(alloc: Global, builder: GraphBuilder) -> Result<StoreAsker<Index
 /// The query that the text spells.
 pub fn query_of(alloc: Global, query: &str) -> Result<Checked, Fail> {
     let text = quoted(alloc, query)?;
-    Ok(read_query(alloc, text.as_bytes(), LIMIT)?)
+    let read = read_query(alloc, text.as_bytes(), LIMIT)?;
+    Ok(read.checked)
 }
 
 /// The blocks of the query that the text spells.
@@ -76,11 +77,28 @@ pub fn templates_of(alloc: Global, text: &str) -> Result<Templates, Fail> {
     Ok(read_templates(alloc, text.as_bytes(), LIMIT)?)
 }
 
+// Templates of one function: that of the address.
+fn maker_of(alloc: Global, address: &str) -> Result<Templates, Fail> {
+    let mut function = Vec::new(alloc);
+    for byte in address.as_bytes() {
+        match byte {
+            b'/' if function.is_empty() => {}
+            b'/' | b'.' => break,
+            _ => function.push(*byte)?,
+        }
+    }
+    let mut text = Vec::new(alloc);
+    text.extend_from_slice(b"<TEMPLATE ")?;
+    text.extend_from_slice(function.as_slice())?;
+    text.extend_from_slice(b"></TEMPLATE>")?;
+    Ok(read_templates(alloc, text.as_slice(), LIMIT)?)
+}
+
 /// Adds the terms of the pages at the addresses.
 pub fn push_terms(alloc: Global, addresses: &[&str], terms: &mut Vec<Term>) -> Result<(), Fail> {
     for address in addresses {
-        match term_of(alloc, address.as_bytes(), None)? {
-            Some(term) => terms.push(term)?,
+        match page_of(alloc, address.as_bytes(), &maker_of(alloc, address)?)? {
+            Some(page) => terms.push(page.term)?,
             None => return Err(Fail::new("the address names no term")),
         }
     }

@@ -6,11 +6,12 @@ use crate::rows::put_row;
 use conditions::{Assigned, holds};
 use edge_queries::{all_labels, all_values};
 use query_blocks::QueryBlocks;
-use query_spec::Variable;
+use query_spec::{Sort, Variable};
 use sd_graph::Graph;
 use sd_value::{Datum, NoMemory, Value, copied_list, copy, sort_and_dedup};
 use std::alloc::Global;
-use struql_ast::{Chain, Condition};
+use query_parts::{copied_variables, own_variables};
+use struql_ast::{Chain, Condition, NoneOf};
 
 // The labels, as an arc variable has them.
 fn labels_of(alloc: Global, graph: &Graph) -> Result<Vec<Value>, NoMemory> {
@@ -60,7 +61,10 @@ fn assignments(
     let mut rows = Vec::new(alloc);
     rows.push(Vec::new(alloc))?;
     for variable in variables {
-        let domain = if variable.arc { &labels } else { &values };
+        let domain = match variable.sort {
+            Sort::Arc => &labels,
+            Sort::Node | Sort::Computed => &values,
+        };
         rows = extended(alloc, rows.as_slice(), domain.as_slice())?;
     }
     Ok(rows)
@@ -69,6 +73,47 @@ fn assignments(
 fn all_hold(alloc: Global, at: Assigned<'_>, conditions: &[Condition]) -> Result<bool, NoMemory> {
     for condition in conditions {
         if !holds(alloc, at, condition)? {
+            return Ok(false);
+        }
+    }
+    Ok(true)
+}
+
+// Whether no values of the NONE's own variables make all its conditions hold.
+fn is_met_by_none(alloc: Global, at: Assigned<'_>, none: &NoneOf) -> Result<bool, NoMemory> {
+    let own = own_variables(alloc, at.variables, &none.conditions)?;
+    let variables = with_own(alloc, at.variables, &own)?;
+    for more in &assignments(alloc, at.graph, &own)? {
+        let mut row = copied_list(alloc, at.row)?;
+        for value in more {
+            row.push(copy(alloc, value)?)?;
+        }
+        let within = Assigned {
+            variables: &variables,
+            row: &row,
+            ..at
+        };
+        if all_hold(alloc, within, &none.conditions)? {
+            return Ok(false);
+        }
+    }
+    Ok(true)
+}
+
+fn with_own(
+    alloc: Global,
+    variables: &[Variable],
+    own: &[Variable],
+) -> Result<Vec<Variable>, NoMemory> {
+    let mut all = copied_variables(alloc, variables)?;
+    let mut more = copied_variables(alloc, own)?;
+    all.append(&mut more)?;
+    Ok(all)
+}
+
+fn none_holds(alloc: Global, at: Assigned<'_>, nones: &[NoneOf]) -> Result<bool, NoMemory> {
+    for none in nones {
+        if !is_met_by_none(alloc, at, none)? {
             return Ok(false);
         }
     }
@@ -90,7 +135,7 @@ fn put_block(
             variables: chain.variables(),
             row,
         };
-        if all_hold(alloc, at, chain.conditions())? {
+        if all_hold(alloc, at, chain.conditions())? && none_holds(alloc, at, chain.nones())? {
             put_row(alloc, row, out)?;
         }
     }

@@ -38,6 +38,9 @@ fn report_of(refusal: QueryRefusal) -> Option<Reported> {
         QueryRefusal::NotChecked(CheckRefusal::NotLabel(place)) => (66, place),
         QueryRefusal::NotChecked(CheckRefusal::Reserved(place)) => (67, place),
         QueryRefusal::NotChecked(CheckRefusal::TooManyVariables(place)) => (68, place),
+        QueryRefusal::NotChecked(CheckRefusal::LocalToNone(place)) => (151, place),
+        QueryRefusal::NotChecked(CheckRefusal::NotYetKnown(place)) => (152, place),
+        QueryRefusal::NotChecked(CheckRefusal::BadPattern(place)) => (153, place),
         QueryRefusal::NotChecked(CheckRefusal::NoMemory) => return None,
     };
     Some(Reported { number, place })

@@ -5,7 +5,7 @@ ghost use Rattle.query_blocks.specs.declared.QueryBlock.{QueryBlock as AnyScoped
 ghost use Rattle.query_blocks.specs.Blocks.{AreCheckedBlocks};
 
 use crate::inputs::graph_of;
-use address::show;
+use address::told;
 use asker::Asker;
 use bindings::StoreAsker;
 use index_store::IndexStore;
@@ -18,6 +18,7 @@ use std::alloc::Global;
 use std::process::Abort;
 use std::test::Fail;
 use struql_ast::Chain;
+use tmpl::{FileParts, Templates};
 
 // What is before a value, with a blank, and behind it.
 fn marks_of(value: &Value) -> (&'static [u8], &'static [u8]) {
@@ -35,7 +36,8 @@ pub fn put_row(alloc: Global, row: &[Value], out: &mut Vec<u8>) -> Result<(), No
     for value in row {
         let (before, behind) = marks_of(value);
         out.extend_from_slice(before)?;
-        show(alloc, value, out)?;
+        let text = told(alloc, &Templates::of(alloc, FileParts::none(alloc))?, value)?;
+        out.extend_from_slice(text.bytes())?;
         out.extend_from_slice(behind)?;
     }
     Ok(out.push(b';')?)

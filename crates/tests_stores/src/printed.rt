@@ -1,8 +1,9 @@
 // Lists of values as texts that a row can be compared with.
-use address::show;
+use address::told;
 use sd_graph::{Edge, Step};
 use sd_value::{Datum, NoMemory, Str, Value};
 use std::alloc::Global;
+use tmpl::{FileParts, Templates};
 
 /// A value of a row.
 pub enum Named {
@@ -48,7 +49,8 @@ impl Printed for Value {
             _ => (b"", b";"),
         };
         out.extend_from_slice(before)?;
-        show(alloc, self, out)?;
+        let text = told(alloc, &Templates::of(alloc, FileParts::none(alloc))?, self)?;
+        out.extend_from_slice(text.bytes())?;
         Ok(out.extend_from_slice(behind)?)
     }
 }

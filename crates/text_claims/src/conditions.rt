@@ -221,6 +221,22 @@ fn push_side(
     }
 }
 
+fn push_operands(
+    alloc: Global,
+    found: &mut Vec<Claim>,
+    block: u64,
+    under: bool,
+    operands: &[Operand],
+) -> Result<(), NoMemory>
+    ensures { IfOk result (λ _. found.new.items
+        ≡ found.old.items ++ flat_map (operand_claims block under) operands.now) }
+{
+    for operand in operands {
+        push_operand(alloc, found, block, under, operand)?;
+    }
+    Ok(())
+}
+
 /// Adds what a condition of the block asks for; `under` where it is under `not`.
 pub(crate) fn push_condition(
     alloc: Global,
@@ -276,5 +292,9 @@ pub(crate) fn push_condition(
             ..
         } => push_variable(alloc, found, block, under, variable, *variable_span),
         Condition::Not(inner, _) => push_condition(alloc, found, block, true, inner),
+        Condition::Gives { left, args, .. } => {
+            push_operand(alloc, found, block, under, left)?;
+            push_operands(alloc, found, block, under, args.items())
+        }
     }
 }

@@ -5,7 +5,7 @@ use Rattle.std.specs.Prelude.{option_copied, ◌≡◌}
 use Rattle.sd_value.specs.Names.{Word}
 use Rattle.tmpl.specs.declared.Expr.{Expr}
 use Rattle.tmpl.specs.declared.Mode.{Mode}
-use Rattle.tmpl.specs.declared.Mode.TheVariants.{Written, Embed, Link, Labelled}
+use Rattle.tmpl.specs.declared.Mode.TheVariants.{Written, Embed, Link, Labelled, Base}
 use Rattle.tmpl.specs.declared.Part.{Part}
 use Rattle.tmpl.specs.declared.SortKey.{SortKey}
 use Rattle.tmpl.specs.declared.Test.{Test}
@@ -24,17 +24,19 @@ label_words (Some word) = word ∷ []
 
 -- the words by which a value's link finds its label
 abbrev pub link_words : Mode → List Word
-link_words (Written w) = []
+link_words (Written w ending) = []
 link_words Embed = []
-link_words (Link word) = label_words word
-link_words (Labelled label) = []
+link_words (Link word ending) = label_words word
+link_words (Labelled label ending) = []
+link_words Base = []
 
 -- the mode is EMBED
 abbrev pub is_embed : Mode → Bool
-is_embed (Written w) = false
+is_embed (Written w ending) = false
 is_embed Embed = true
-is_embed (Link word) = false
-is_embed (Labelled label) = false
+is_embed (Link word ending) = false
+is_embed (Labelled label ending) = false
+is_embed Base = false
 
 -- an expression of a template, the words that begin at each of its values, and whether these are
 -- embedded

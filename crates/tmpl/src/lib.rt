@@ -1,10 +1,22 @@
 //! Templates as data: the types of the code, and how they read as plain trees.
 #![tactic(auto)]
 
-ghost use Rattle.std.specs.Prelude.{All, ◌≡◌, ◌<◌, length};
+ghost use Rattle.std.specs.Prelude.{All, ◌≡◌, ◌<◌, length, map};
+ghost use Rattle.tmpl.specs.Addresses.{AreApart};
+ghost use Rattle.tmpl.specs.Body.{number_in, presentation_in};
+ghost use Rattle.tmpl.specs.Reading.{named_of, names_in};
 
+mod addresses;
+mod endings;
 mod uses;
 
+pub use addresses::{
+    Address, Presentation, at_in, file_in, first_segment, function_at, is_index, is_well_made,
+    meet, meets_name,
+};
+pub use endings::{
+    Ending, ending_name, ending_number, ending_of, path_ending, without_ending, writing_of,
+};
 use sd_value::{NoMemory, Str, Value};
 use std::alloc::Global;
 use std::marker::Model;
@@ -130,17 +142,19 @@ pub enum Writing {
     Json,
 }
 
-/// How a value is shown.
+/// How a value is shown. The address of a page is that of its page with the ending.
 #[derive(Drop)]
 pub enum Mode {
     /// As its text, written so.
-    Written(Writing),
+    Written(Writing, Ending),
     /// By its own template, in place.
     Embed,
     /// As a link, whose label the word finds from the value; without a word the value is the label.
-    Link(Option<Word>),
+    Link(Option<Word>, Ending),
     /// As a link with this label.
-    Labelled(Str),
+    Labelled(Str, Ending),
+    /// Whatever it is, as what shown addresses begin with.
+    Base,
 }
 
 /// An SFMT: the values of an expression, shown one after another.
@@ -235,14 +249,22 @@ pub struct NamedTemplate {
     pub template: u32,
 }
 
-/// A file of templates, its function templates and its collection templates each in the order of
-/// the file.
+/// A file of templates: those of functions, of their pages of other endings and of collections, each in the order of the
+/// file, and the addresses that it chooses. In a site it also has the function of the root and what addresses begin with;
+/// the file alone has no root, and `/`.
 pub struct Templates {
     functions: Vec<NamedTemplate>,
+    presentations: Vec<Presentation>,
     collections: Vec<NamedTemplate>,
+    addresses: Vec<Address>,
     bodies: Vec<Template>,
+    root: Option<Str>,
+    base: Str,
     pub ghost functions_in_range: { All (λ n. n.template < length bodies.items) functions.items },
+    pub ghost presentations_in_range: { All (λ n. n.template < length bodies.items)
+        presentations.items },
     pub ghost collections_in_range: { All (λ n. n.template < length bodies.items) collections.items },
+    pub ghost apart: { AreApart (names_in functions.items presentations.items) addresses.items },
 }
 
 // Written out, so that it is proved here once, and not again in each crate that drops one.
@@ -250,34 +272,100 @@ impl Drop for Templates {
     fn drop(self) {
         let Templates {
             functions: _functions,
+            presentations: _presentations,
             collections: _collections,
+            addresses: _addresses,
             bodies: _bodies,
+            root: _root,
+            base: _base,
         } = self;
     }
 }
 
-impl Templates {
-    ghost use Rattle.std.specs.Prelude.{All, ◌<◌, ◌≡◌, length, map, get_or};
-    ghost use Rattle.tmpl.specs.Body.{done};
-    ghost use Rattle.tmpl.specs.Reading.{file_of, named_of, template_body};
+/// The templates of a file, each named by the number of its body, and the addresses that it chooses.
+#[derive(Drop)]
+pub struct FileParts {
+    pub functions: Vec<NamedTemplate>,
+    pub presentations: Vec<Presentation>,
+    pub collections: Vec<NamedTemplate>,
+    pub addresses: Vec<Address>,
+    pub bodies: Vec<Template>,
+}
 
-    /// The file with these templates, each named by the number of its body.
-    pub fn of(
-        functions: Vec<NamedTemplate>,
-        collections: Vec<NamedTemplate>,
-        bodies: Vec<Template>,
-    ) -> Templates
-        requires functions { All (λ n. n.template < length bodies.items) functions.items }
-        requires collections { All (λ n. n.template < length bodies.items) collections.items }
-        ensures functions { (file_of result).functions ≡ map named_of functions.items }
-        ensures collections { (file_of result).collections ≡ map named_of collections.items }
-        ensures bodies { (file_of result).bodies ≡ map template_body bodies.items }
+impl FileParts {
+    ghost use Rattle.std.specs.Prelude.{◌≡◌, []};
+
+    /// No template and no address. It takes no memory.
+    pub fn none(alloc: Global) -> FileParts
+        ensures functions { result.functions.items ≡ [] }
+        ensures presentations { result.presentations.items ≡ [] }
+        ensures collections { result.collections.items ≡ [] }
+        ensures addresses { result.addresses.items ≡ [] }
+        ensures bodies { result.bodies.items ≡ [] }
     {
-        Templates {
-            functions,
-            collections,
-            bodies,
+        FileParts {
+            functions: Vec::new(alloc),
+            presentations: Vec::new(alloc),
+            collections: Vec::new(alloc),
+            addresses: Vec::new(alloc),
+            bodies: Vec::new(alloc),
         }
+    }
+}
+
+impl Templates {
+    ghost use Rattle.std.specs.Prelude.{All, ◌<◌, ◌≡◌, length, map, get_or, codes, None, Some, IfOk, option_copied};
+    ghost use Rattle.tmpl.specs.Addresses.{AreApart};
+    ghost use Rattle.tmpl.specs.Body.{done, in_site, presented_in};
+    ghost use Rattle.tmpl.specs.Reading.{file_of, named_of, template_body, names_in};
+
+    /// The file with these templates.
+    pub fn of(alloc: Global, parts: FileParts) -> Result<Templates, NoMemory>
+        requires functions { All (λ n. n.template < length parts.bodies.items)
+            parts.functions.items }
+        requires presentations { All (λ n. n.template < length parts.bodies.items)
+            parts.presentations.items }
+        requires collections { All (λ n. n.template < length parts.bodies.items)
+            parts.collections.items }
+        requires apart { AreApart (names_in parts.functions.items parts.presentations.items)
+            parts.addresses.items }
+        ensures functions { IfOk result
+            (λ t. (file_of t).functions ≡ map named_of parts.functions.items) }
+        ensures presentations { IfOk result
+            (λ t. (file_of t).presentations ≡ parts.presentations.items) }
+        ensures collections { IfOk result
+            (λ t. (file_of t).collections ≡ map named_of parts.collections.items) }
+        ensures addresses { IfOk result (λ t. (file_of t).addresses ≡ parts.addresses.items) }
+        ensures bodies { IfOk result (λ t. (file_of t).bodies ≡ map template_body parts.bodies.items) }
+        ensures alone { IfOk result
+            (λ t. ((file_of t).root ≡ None) × ((file_of t).base ≡ codes "/")) }
+    {
+        let FileParts {
+            functions,
+            presentations,
+            collections,
+            addresses,
+            bodies,
+        } = parts;
+        Ok(Templates {
+            functions,
+            presentations,
+            collections,
+            addresses,
+            bodies,
+            root: None,
+            base: Str::new(alloc, b"/")?,
+        })
+    }
+
+    /// The same in a site whose root is of this function, and whose addresses begin so.
+    pub fn in_site(self, root: Option<Str>, base: Str) -> Templates
+        ensures { file_of result ≡ in_site root base (file_of self.entry) }
+    {
+        let mut placed = self;
+        placed.root = root;
+        placed.base = base;
+        placed
     }
 
     /// How many templates there are; they are numbered from 0.
@@ -294,11 +382,50 @@ impl Templates {
         self.functions.as_slice()
     }
 
+    /// The templates of functions' pages of other endings, in the order of the file.
+    pub fn presentations(&self) -> &[Presentation]
+        ensures { result.now ≡ (file_of self.now).presentations }
+    {
+        self.presentations.as_slice()
+    }
+
     /// The collection templates, in the order of the file.
     pub fn collections(&self) -> &[NamedTemplate]
         ensures { map named_of result.now ≡ (file_of self.now).collections }
     {
         self.collections.as_slice()
+    }
+
+    /// The addresses that are chosen, in the order of the file. None gives an address of another page.
+    pub fn addresses(&self) -> &[Address]
+        ensures is { result.now ≡ (file_of self.now).addresses }
+    {
+        self.addresses.as_slice()
+    }
+
+    /// The function of the root, if there is one.
+    pub fn root(&self) -> Option<&Str>
+        ensures { option_copied result ≡ (file_of self.now).root }
+    {
+        self.root.as_ref()
+    }
+
+    /// What shown addresses begin with, with a slash at both ends.
+    pub fn base(&self) -> &Str
+        ensures { result.now ≡ (file_of self.now).base }
+    {
+        &self.base
+    }
+
+    /// The number of the function's own template, which `html` has, or of that of another ending.
+    pub fn presented(&self, function: &Str, ending: Ending) -> Option<u32>
+        ensures { result ≡ presented_in (file_of self.now) function.now ending }
+    {
+        if ending == Ending::Html {
+            number_in(self.functions.as_slice(), function)
+        } else {
+            presentation_in(self.presentations.as_slice(), function, ending)
+        }
     }
 
     /// The template of this number.
@@ -308,4 +435,28 @@ impl Templates {
     {
         &self.bodies[number as usize]
     }
+}
+
+/// The number of the first template of this name.
+fn number_in(named: &[NamedTemplate], name: &Str) -> Option<u32>
+    ensures { result ≡ number_in (map named_of named.now) name.now }
+{
+    for one in named {
+        if one.name.bytes() == name.bytes() {
+            return Some(one.template);
+        }
+    }
+    None
+}
+
+/// The number of the first of these templates of this name and ending.
+fn presentation_in(presentations: &[Presentation], name: &Str, ending: Ending) -> Option<u32>
+    ensures { result ≡ presentation_in presentations.now name.now ending }
+{
+    for one in presentations {
+        if one.ending == ending && one.name.bytes() == name.bytes() {
+            return Some(one.template);
+        }
+    }
+    None
 }

@@ -22,8 +22,8 @@ fn label_of(mode: &Mode) -> Option<&Word>
     ensures { label_words (option_copied result) ≡ link_words mode.now }
 {
     match mode {
-        Mode::Written(_) | Mode::Embed | Mode::Labelled(_) => None,
-        Mode::Link(word) => word.as_ref(),
+        Mode::Written(..) | Mode::Embed | Mode::Labelled(..) | Mode::Base => None,
+        Mode::Link(word, _) => word.as_ref(),
     }
 }
 
@@ -32,7 +32,7 @@ fn is_embed(mode: &Mode) -> bool
 {
     match mode {
         Mode::Embed => true,
-        Mode::Written(_) | Mode::Link(_) | Mode::Labelled(_) => false,
+        Mode::Written(..) | Mode::Link(..) | Mode::Labelled(..) | Mode::Base => false,
     }
 }
 

@@ -14,7 +14,7 @@ ghost use Rattle.trial_size.specs.Cut.{IsCut};
 
 use graph_spec::{Edge, Member};
 use query_blocks::{QueryBlock, QueryBlocks};
-use query_spec::Variable;
+use query_spec::{Sort, Variable};
 use rpe::Rpe;
 use sd_graph::Graph;
 use sd_value::Str;
@@ -189,7 +189,7 @@ fn condition_rows(graph: &Graph, conditions: &[Condition]) -> usize
 fn free(graph: &Graph, conditions: &[Condition], variable: &Variable) -> usize
     ensures { result ≡ free_ways graph.now (map condition_of conditions.now) variable.now }
 {
-    if is_given(conditions, &variable.name) {
+    if matches!(variable.sort, Sort::Computed) || is_given(conditions, &variable.name) {
         1
     } else {
         size(graph)

@@ -1,12 +1,11 @@
 -- Targets that are asked for, one after another, and the text of a trial.
-use Rattle.std.specs.Prelude.{◌≡◌, ℕ, List, [], ◌∷◌, length, Option}
-use Rattle.sd_value.specs.declared.Term.{Term}
+use Rattle.std.specs.Prelude.{◌≡◌, ℕ, List, [], ◌∷◌, length}
+use Rattle.page_spec.specs.declared.PageName.{PageName}
 use Rattle.tmpl.specs.Body.{TemplateFile}
 use Rattle.page_spec.specs.declared.Outcome.{Outcome}
-use Rattle.page_spec.specs.Address.{TermOf}
 use Rattle.page_spec.specs.Page.{IsOutcome, PageAt}
 use Rattle.page_spec.specs.Site.{Site}
-use Rattle.serving_spec.specs.Made.{NamedBy, AllLooked}
+use Rattle.serving_spec.specs.Made.{FindsAt, AllLooked}
 use Rattle.serving_spec.specs.Looks.{Kept, LooksIn}
 use Rattle.serving_spec.specs.declared.CacheRoom.{CacheRoom}
 use Rattle.trial_spec.specs.Numbers.{counts_of, lines_of}
@@ -20,14 +19,14 @@ trial_room = record { pages = 256; bytes = 67108864 }
 abbrev pub none_kept : Kept
 none_kept = record { room = trial_room; pages = []; hits = 0 }
 
-module _ (root : Option (List ℕ)) (s : Site) (f : TemplateFile) where
-  -- A target was asked for: the outcome that it has, and what is kept of the pages before and after its term, if it has
-  -- one, was looked up.
+module _ (s : Site) (f : TemplateFile) where
+  -- A target was asked for: the outcome that it has, and what is kept of the pages before and after its page, if it has
+  -- one, was looked up, and if there is none the page that is shown then.
   pub record IsAsked (before : Kept) (target : List ℕ) (outcome : Outcome) (after : Kept) : Type 0 where
-    pub terms : List Term
-    pub is : PageAt root s f target outcome
-    pub named : NamedBy (TermOf root) target terms
-    pub looked : AllLooked (LooksIn (IsOutcome s f)) before terms after
+    pub pages : List PageName
+    pub is : PageAt s f target outcome
+    pub found : FindsAt s f target pages
+    pub looked : AllLooked (LooksIn (IsOutcome s f)) before pages after
 
   -- the targets were asked for, one after another
   abbrev pub AreAsked : Kept → List (List ℕ) → List Outcome → Kept → Type 0

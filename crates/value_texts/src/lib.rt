@@ -4,18 +4,23 @@
 ghost use Rattle.std.specs.Prelude.{◌≡◌, ◌↔◌, IfOk, IsTrue};
 ghost use Rattle.std.specs.String.{string_bytes};
 ghost use Rattle.std.specs.Option.{option_map};
-ghost use Rattle.value_texts.specs.declared.TextTest.TheVariants.{Starts, Ends, Has};
+ghost use Rattle.value_texts.specs.declared.TextTest.TheVariants.{Starts, Ends, Has, Matches};
 ghost use Rattle.value_texts.specs.Texts.{as_utf8, text_of, TextHolds, TextsHold};
 
+mod patterns;
+
+pub use patterns::Pattern;
 use sd_value::{Datum, NoMemory, Str, Value};
 use std::alloc::Global;
 
-/// A test of two texts: whether the first begins with, ends with or has within it the second.
+/// A test of two texts: whether the first begins with, ends with or has within it the second; or has within it what the
+/// second, a regular expression, matches.
 #[derive(Clone, Copy, Debug, PartialEq, Eq)]
 pub enum TextTest {
     Starts,
     Ends,
     Has,
+    Matches,
 }
 
 // The text, if its bytes are UTF-8.
@@ -67,13 +72,23 @@ fn has(text: &str, part: &str) -> bool
     text.contains(part)
 }
 
-fn text_holds(test: TextTest, text: &str, part: &str) -> bool
-    ensures { IsTrue result ↔ TextHolds test text.now part.now }
+fn matches(alloc: Global, text: &str, part: &str) -> Result<bool, NoMemory>
+    ensures { IfOk result (λ b. IsTrue b ↔ TextHolds Matches text.now part.now) }
+{
+    match Pattern::of_text(alloc, part)? {
+        Some(pattern) => pattern.is_in_text(alloc, text),
+        None => Ok(false),
+    }
+}
+
+fn text_holds(alloc: Global, test: TextTest, text: &str, part: &str) -> Result<bool, NoMemory>
+    ensures { IfOk result (λ b. IsTrue b ↔ TextHolds test text.now part.now) }
 {
     match test {
-        TextTest::Starts => begins(text.as_bytes(), part.as_bytes()),
-        TextTest::Ends => ends(text.as_bytes(), part.as_bytes()),
-        TextTest::Has => has(text, part),
+        TextTest::Starts => Ok(begins(text.as_bytes(), part.as_bytes())),
+        TextTest::Ends => Ok(ends(text.as_bytes(), part.as_bytes())),
+        TextTest::Has => Ok(has(text, part)),
+        TextTest::Matches => matches(alloc, text, part),
     }
 }
 
@@ -84,5 +99,5 @@ pub fn texts_hold(alloc: Global, test: TextTest, u: &Value, v: &Value) -> Result
     let (Some(text), Some(part)) = (text_of(alloc, u)?, text_of(alloc, v)?) else {
         return Ok(false);
     };
-    Ok(text_holds(test, &text, &part))
+    text_holds(alloc, test, &text, &part)
 }

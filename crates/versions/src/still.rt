@@ -2,10 +2,11 @@
 ghost use Rattle.std.specs.Prelude.{false};
 
 use crate::{Changed, Versions};
-use page_spec::Outcome;
-use sd_value::{NoMemory, Str, Term};
+use page_spec::{Outcome, PageName};
+use sd_value::{NoMemory, Str};
 use site_view::Pages;
 use std::alloc::Global;
+use tmpl::Templates;
 
 /// Pages whose data do not change: no text is accepted. None is kept.
 #[derive(Drop)]
@@ -30,9 +31,9 @@ impl<P: Pages> Versions for Still<P> {
 
     ghost accepts = { λ state text. false };
 
-    ghost stays = { λ state text term. false };
+    ghost stays = { λ state text page. false };
 
-    ghost looks = { λ state before term after. Unit {0} };
+    ghost looks = { λ state before page after. Unit {0} };
 
     ghost renews = { λ state text before after. Unit {0} };
 
@@ -40,11 +41,20 @@ impl<P: Pages> Versions for Still<P> {
 
     ghost Own = { λ s. P.Own s.pages };
 
-    fn page(&mut self, alloc: Global, term: &Term) -> Result<Outcome, NoMemory> {
-        self.pages.page(alloc, term)
+    fn template_file(&self) -> &Templates {
+        self.pages.template_file()
     }
 
-    fn change(&mut self, alloc: Global, _text: &Str, _kept: &[Term]) -> Result<Changed, NoMemory> {
+    fn page(&mut self, alloc: Global, page: &PageName) -> Result<Outcome, NoMemory> {
+        self.pages.page(alloc, page)
+    }
+
+    fn change(
+        &mut self,
+        alloc: Global,
+        _text: &Str,
+        _kept: &[PageName],
+    ) -> Result<Changed, NoMemory> {
         Ok(Changed::Refused)
     }
 

@@ -9,6 +9,7 @@ use Rattle.graph_spec.specs.DataGraph.{DataGraph, node, HasEdge, HasMember}
 use Rattle.query_spec.specs.Query.{SkolemTerm, made, Link, Collect, Body}
 use Rattle.query_spec.specs.Rows.{value_in, IsRow}
 use Rattle.tmpl.specs.Body.{TemplateFile}
+use Rattle.page_spec.specs.declared.PageName.{PageName}
 use Rattle.page_spec.specs.Question.{Question, in_site, out, collected, template}
 use Rattle.site_spec.specs.Site.{Scope, chain, IsTargetUnder, IsLabelUnder}
 use Rattle.weight_spec.specs.Site.{site_of}
@@ -51,7 +52,7 @@ module _ (graph : DataGraph) (query : Scope) where
       IsRow graph (chain query b) row
       × IsTargetUnder (value_in (chain query b).variables row) k.source (Page p)
 
-module _ (graph : DataGraph) (query : Scope) (templates : TemplateFile) (page : Term) where
+module _ (graph : DataGraph) (query : Scope) (templates : TemplateFile) (page : PageName) where
   -- what the page may be charged for:
   --     each place of the query that names a term of the page's function
   --     each row of a link that starts, under this row, at a page whose edges by some label the
@@ -61,7 +62,8 @@ module _ (graph : DataGraph) (query : Scope) (templates : TemplateFile) (page : 
   --     each member of a collection that they name, and each row of a COLLECT under its name
   abbrev pub IsCharge : Charge → Type 0
   IsCharge (mention t block m) =
-      (t ≡ page) × ((b : Body) × (slice_get query.bodies block ≡ Some b) × IsNamedAt b page m)
+      (t ≡ page.term)
+      × ((b : Body) × (slice_get query.bodies block ≡ Some b) × IsNamedAt b page.term m)
   IsCharge (link_row t block link row) =
       ((label : Label) × IsRead (site_of graph query) templates page (Page t) label)
       × ((b : Body) × (slice_get query.bodies block ≡ Some b)

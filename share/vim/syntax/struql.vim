@@ -2,10 +2,10 @@
 if exists("b:current_syntax") | finish | endif
 syntax keyword struqlKeyword STRUQL struql INPUT input OUTPUT output
 syntax keyword struqlClause WHERE where CREATE create LINK link COLLECT collect
-syntax keyword struqlOperator NOT not IN in
+syntax keyword struqlOperator NOT not IN in NONE none
 syntax keyword struqlAny TRUE true
 syntax keyword struqlTest isInt isText isUrl isFile isNode
-syntax match struqlTest contained "\<\(starts\|ends\|has\|count\|min\|max\|sum\)\ze\s*("
+syntax match struqlTest contained "\<\(starts\|ends\|has\|matches\|lower\|upper\|fold\|slug\|trim\|first\|last\|rest\|before\|after\|replace\|join\|length\|number\|decimal\|plus\|minus\|times\|div\|mod\|split\|count\|min\|max\|sum\)\ze\s*("
 syntax match struqlCall "\<[A-Za-z_][A-Za-z0-9_]*\ze\s*(" contains=struqlTest,struqlOperator
 syntax match struqlArrow "->"
 syntax match struqlSign "[=<>|*.]\|!=\|<=\|>="

@@ -1,5 +1,5 @@
 use Rattle.std.proofs.Common.{◌≡◌, take}
 use Rattle.page_cache.proofs.all_terms.Given as goal
 
-abbrev pub invariant-loop-term : goal.invariant-loop-term
-invariant-loop-term l = l.all.items ≡ take l.term-index l.terms
+abbrev pub invariant-loop-page : goal.invariant-loop-page
+invariant-loop-page l = l.all.items ≡ take l.page-index l.pages

@@ -9,17 +9,17 @@ loop-i-init c = (ap (λ es. lru_cache es c.args.kept.now.cap) (sym (append-nil c
 pub loop-i-preserved : goal.loop-i-preserved
 loop-i-preserved c =
     let es = c.args.kept.now.entries in
-    let same : length c.args.terms.now ≡ length es = ap length c.requires.terms ∙ length_keys es in
+    let same : length c.args.pages.now ≡ length es = ap length c.requires.pages ∙ length_keys es in
     let turned = c.turn-bytes.ensures.bytes in
     let before = c.loop-i.invariant.1 in (
-      sift_step es c.args.kept.now.cap c.loop-i.i c.args.flags.now c.index-terms-i.result _ _ c.index-terms-i.result c.loop-i.kept c.turn-bytes.new.kept
+      sift_step es c.args.kept.now.cap c.loop-i.i c.args.flags.now c.index-pages-i.result _ _ c.index-pages-i.result c.loop-i.kept c.turn-bytes.new.kept
           (omega (arith, same, c.loop-i-test.true)) (c.requires.flags ∙ same)
-          (c.index-terms-i.is ∙ ap (λ ks. get_or ks c.loop-i.i c.index-terms-i.result) c.requires.terms) refl c.loop-i.invariant.0 c.turn-bytes.ensures.entries,
+          (c.index-pages-i.is ∙ ap (λ ks. get_or ks c.loop-i.i c.index-pages-i.result) c.requires.pages) refl c.loop-i.invariant.0 c.turn-bytes.ensures.entries,
       omega (arith, turned, before),
     )
 
 pub returns-clause-entries : goal.returns-clause-entries
 returns-clause-entries c =
     let es = c.args.kept.now.entries in
-    let same : length c.args.terms.now ≡ length es = ap length c.requires.terms ∙ length_keys es in
+    let same : length c.args.pages.now ≡ length es = ap length c.requires.pages ∙ length_keys es in
     sift_end es c.args.kept.now.cap c.loop-i.i c.args.flags.now c.loop-i.kept (omega (arith, same, c.loop-i-test.false, c.loop-i.auto.i-end)) (c.requires.flags ∙ same) c.loop-i.invariant.0

@@ -3,4 +3,4 @@ use Rattle.page_cache.proofs.ByteLemmas.{turned_stays}
 use Rattle.page_cache.proofs.turn.Goals as goal
 
 pub returns-then-stays-clause-bytes : goal.returns-then-stays-clause-bytes
-returns-then-stays-clause-bytes c = turned_stays (is_same c.args.term.now) c.args.kept.now.entries c.demote.new.self c.args.kept.now.cap c.demote.ensures.entries
+returns-then-stays-clause-bytes c = turned_stays (is_same c.args.page.now) c.args.kept.now.entries c.demote.new.self c.args.kept.now.cap c.demote.ensures.entries

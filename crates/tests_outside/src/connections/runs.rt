@@ -222,7 +222,14 @@ fn is_served(alloc: Global, wire: &mut MemWire, requests: u64) -> bool {
     if requests == 0 {
         return false;
     }
-    let mut hub = Hub::of(alloc, Still { pages: NoPages }, requests, ANY);
+    let mut hub = Hub::of(
+        alloc,
+        Still {
+            pages: NoPages::new(alloc)?,
+        },
+        requests,
+        ANY,
+    );
     serve(alloc, &mut hub, wire, 1000) == HubEnd::Done
 }
 
@@ -231,7 +238,14 @@ fn is_served_kept(alloc: Global, wire: &mut MemWire, kept: &Kept) -> bool {
     let Some(capacity) = NonZeroUsize::new(kept.capacity) else {
         return false;
     };
-    let Ok(pages) = Cached::of(alloc, Still { pages: NoPages }, capacity, 65_536) else {
+    let Ok(pages) = Cached::of(
+        alloc,
+        Still {
+            pages: NoPages::new(alloc)?,
+        },
+        capacity,
+        65_536,
+    ) else {
         return false;
     };
     let mut hub = Hub::of(alloc, pages, 1, ANY);

@@ -44,11 +44,8 @@ where
     }
 }
 
-/// Any host, and no root.
-pub const ANY: Origin = Origin {
-    root: None,
-    hosts: None,
-};
+/// Any host.
+pub const ANY: Origin = Origin { hosts: None };
 
 // One thread is client and server: the system keeps what a connection sends until it is taken.
 #[test]
@@ -56,7 +53,14 @@ fn a_request_over_a_socket_has_its_reply(rt: HostRuntime) -> Result<(), Fail> {
     let alloc = rt.alloc();
     let mut wire = TcpWire::new(alloc, &rt, RealFiles::new(&rt, 0), WAITS, 1);
     let mut client = asking(&rt, &mut wire).ok_or("no socket")?;
-    let mut hub = Hub::of(alloc, Still { pages: NoPages }, 1, ANY);
+    let mut hub = Hub::of(
+        alloc,
+        Still {
+            pages: NoPages::new(alloc)?,
+        },
+        1,
+        ANY,
+    );
     let end = serve(alloc, &mut hub, &mut wire, 1000);
     let mut taken = Vec::new(alloc);
     let is_read = client.read_to_end(&mut taken).is_ok();

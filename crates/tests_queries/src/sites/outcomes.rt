@@ -1,7 +1,7 @@
 // The outcomes of requests for the pages of terms, as a text.
 use crate::inputs::check_text;
-use address::{address, show};
-use page_spec::Outcome;
+use address::{address, told};
+use page_spec::{Outcome, PageName};
 use sd_value::{NoMemory, Term};
 use site_view::Pages;
 use std::alloc::Global;
@@ -21,13 +21,15 @@ fn put_page<P: Pages>(
 {
     address(alloc, term, out)?;
     out.push(b' ')?;
-    match &pages.page(alloc, term)? {
+    let page = PageName::own(term.copy(alloc)?);
+    match &pages.page(alloc, &page)? {
         Outcome::Page(text) => Ok(out.extend_from_slice(text.bytes())?),
         Outcome::Missing => Ok(out.push(b'-')?),
         Outcome::TooLong => Ok(out.push(b'+')?),
         Outcome::Cyclic(value) => {
             out.push(b'@')?;
-            show(alloc, value, out)
+            let at = told(alloc, pages.template_file(), value)?;
+            Ok(out.extend_from_slice(at.bytes())?)
         }
     }
 }

@@ -1,9 +1,0 @@
-use Rattle.std.proofs.Common.{◌≡◌, take}
-use Rattle.std.specs.Prelude.{map}
-use Rattle.std.specs.List.{flat_map}
-use Rattle.query_spec.specs.Mentions.{arc_names}
-use Rattle.struql_ast.specs.Reading.{condition_of}
-use Rattle.query_scoping.proofs.variables.arc_names_of.Given as goal
-
-abbrev pub invariant-loop-condition : goal.invariant-loop-condition
-invariant-loop-condition l = l.found.items ≡ flat_map arc_names (map condition_of (take l.condition-index l.conditions))
