@@ -5,6 +5,7 @@ them without proving anything below it again. STRUDEL_STORE names the folder, el
 that were changed in a checkout and built there by `tools/prove CRATE --build` are in the checkout's own part of it, and
 come first.
 """
+import functools
 import glob
 import os
 import re
@@ -16,6 +17,7 @@ STORE = os.environ.get("STRUDEL_STORE", "/tmp/strudel-store")
 OWN = f"{STORE}/own/{TOP.strip('/').replace('/', '-')}"
 
 
+@functools.lru_cache(None)
 def kit():
     """The kit's folder, which has bin/, rlibs/ and the guides."""
     return os.path.dirname(subprocess.run(["rt", "doc"], stdout=subprocess.PIPE, encoding="utf-8", check=True).stdout.strip())

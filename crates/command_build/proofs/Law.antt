@@ -1,13 +1,13 @@
 -- How a build ends that nothing outside fails.
-use Rattle.std.proofs.Common.{◌≡◌, ◌⊎◌, ℕ, List, ◌∷◌, ◌++◌, inl, inr, refl, sym, subst, arith}
-use Rattle.std.specs.Prelude.{Option, None, Some, Result, Ok, Err, Contains}
+use Rattle.std.proofs.Common.{◌≡◌, ◌⊎◌, ℕ, List, [], ◌∷◌, ◌++◌, inl, inr, refl, sym, subst, arith}
+use Rattle.std.specs.Prelude.{Option, None, Some, Result, Ok, Err, Contains, if◌then◌else◌}
 use Rattle.sd_value.specs.declared.Term.{Term}
 use Rattle.sd_value.specs.Order.{term_cmp}
 use Rattle.sd_value.specs.Ascending.{ListsExactly}
 use Rattle.page_spec.specs.Page.{IsPresent}
 use Rattle.page_spec.specs.declared.Outcome.{Outcome}
 use Rattle.page_spec.specs.declared.Outcome.TheVariants as outcome
-use Rattle.std.proofs.lemmas.List.Elements.{Contains-append_right}
+use Rattle.std.proofs.lemmas.List.Elements.{Contains-append_left, Contains-append_right}
 use Rattle.page_spec.proofs.Texts.{outcome_unique}
 use Rattle.edge_io.specs.Files.{FileMap}
 use Rattle.run_report.specs.declared.status.PageKind.{PageKind}
@@ -22,11 +22,14 @@ use Rattle.files_spec.specs.Files.{IsFaulty, SiteEnds, RootEnds}
 use Rattle.site_inputs.specs.declared.fault.Fault.{Fault}
 use Rattle.site_inputs.specs.declared.fault.Fault.TheVariants as fault
 use Rattle.site_inputs.specs.Runs.{IsDecidedFault, Decides}
-use Rattle.command_spec.specs.Inputs.{data_paths, input_paths}
+use Rattle.command_spec.specs.Inputs.{build_paths, data_paths, input_paths}
 use Rattle.site_inputs.specs.Sites.{Inputs, InputsEnd, site_at}
 use Rattle.site_inputs.specs.Statuses.{ReadRose, status_of}
 use Rattle.site_inputs.proofs.DecidedInputs.{inputs_decide}
-use Rattle.command_build.specs.Ends.{IsBuilt, Builds, BuildEnds, IsUnwritten, SiteRose}
+use Rattle.command_build.specs.Ends.{IsBuilt, Builds, BuildEnds, IsUnwritten, SiteRose, old_list}
+use Rattle.files_spec.specs.Paths.{list_path}
+use Rattle.site_files.specs.Listed.{FilesEnd}
+use Rattle.command_build.proofs.Built.{site_fault}
 use Rattle.site_inputs.specs.Outside.{Host, PutsRose, AllRead, HasStatus}
 use Rattle.command_build.specs.Law.{AllCanBeWritten, BuildEndsWell}
 use Rattle.site_inputs.proofs.Endings.{ok_same, not_both, by_reason}
@@ -51,12 +54,23 @@ module _ (s : Inputs) (writable : AllCanBeWritten s) where
   no_root_fault folder pages None old new term kind h = h
   no_root_fault folder pages (Some root) old new term kind h = h
 
-  no_page_fault : (folder : List ℕ) (old new : FileMap) (term : Term) (kind : PageKind) → IsBuilt s folder old new (Err (stop.Faulty term kind)) → ⊥
-  no_page_fault folder old new term kind built = by_files built.files
+  no_site_fault : (folder : List ℕ) (pages : List Term) (old new : FileMap) (term : Term) (kind : PageKind) → ListsExactly term_cmp (IsPresent (site_at s) s.templates) pages
+      → SiteEnds (site_at s) s.templates folder pages (root_function s.query) old new (Err (stop.Faulty term kind)) → ⊥
+  no_site_fault folder pages old new term kind are (inl h) = not_faulty h.at kind (present_at pages h.front h.at h.back are h.split) h.stops.1
+  no_site_fault folder pages old new term kind are (inr h) = no_root_fault folder pages (root_function s.query) h.between new term kind h.then_root
+
+  no_files_fault : (list : Option (List (List ℕ))) (folder : List ℕ) (pages : List Term) (old new : FileMap) (term : Term) (kind : PageKind) → ListsExactly term_cmp (IsPresent (site_at s) s.templates) pages
+      → FilesEnd (site_at s) s.templates folder pages (root_function s.query) list old new (Err (stop.Faulty term kind)) → ⊥
+  no_files_fault None folder pages old new term kind are h = no_site_fault folder pages old new term kind are h
+  no_files_fault (Some was) folder pages old new term kind are (inr h) = (let same = h.0 in cc)
+  no_files_fault (Some was) folder pages old new term kind are (inl listed) =
+      of_site (site_fault (site_at s) s.templates folder pages (root_function s.query) was old new term kind listed)
     where
-      by_files : SiteEnds (site_at s) s.templates folder built.pages (root_function s.query) old new (Err (stop.Faulty term kind)) → ⊥
-      by_files (inl h) = not_faulty h.at kind (present_at built.pages h.front h.at h.back built.are_pages h.split) h.stops.1
-      by_files (inr h) = no_root_fault folder built.pages (root_function s.query) h.between new term kind h.then_root
+      of_site : (mid now : FileMap) × SiteEnds (site_at s) s.templates folder pages (root_function s.query) mid now (Err (stop.Faulty term kind)) → ⊥
+      of_site h = no_site_fault folder pages h.0 h.1 term kind are h.2
+
+  no_page_fault : (list : Option (List (List ℕ))) (folder : List ℕ) (old new : FileMap) (term : Term) (kind : PageKind) → IsBuilt s list folder old new (Err (stop.Faulty term kind)) → ⊥
+  no_page_fault list folder old new term kind built = no_files_fault list folder built.pages old new term kind built.are_pages built.files
 
 module _ (command : BuildCommand) (before after : Host) where
   abbrev Ended : Result Inputs Fault → Type 0
@@ -64,6 +78,14 @@ module _ (command : BuildCommand) (before after : Host) where
 
   abbrev Paths : List (List ℕ)
   Paths = input_paths (data_paths command.sources command.over) command.query command.templates
+
+  -- the list in the folder
+  abbrev list : Option (List (List ℕ))
+  list = old_list command.clean command.folder before.files
+
+  -- its inputs are files that it reads
+  all_inputs : AllRead (build_paths command) before after → AllRead Paths before after
+  all_inputs all path k = all path (Contains-append_left Paths (if command.clean then list_path command.folder ∷ [] else []) path k)
 
   decides : Decides Ended
   decides = inputs_decide before.files command.sources command.over command.query command.templates
@@ -74,18 +96,18 @@ module _ (command : BuildCommand) (before after : Host) where
       let same : b.inputs ≡ s = ok_same b.inputs s (decides.once (Ok b.inputs) (Ok s) b.taken taken tt tt) in
       by_built b.inputs (subst AllCanBeWritten (sym same) writable) b.built
     where
-      by_built : (t : Inputs) → AllCanBeWritten t → IsBuilt t command.folder before.files after.files (Err (stop.Faulty term kind)) ⊎ ((◌≡◌ {A = Result (List ℕ) Stop} (Err (stop.Faulty term kind)) (Err stop.NoMemory)) × (after.files ≡ before.files)) → ⊥
-      by_built t can (inl built) = no_page_fault t can command.folder before.files after.files term kind built
+      by_built : (t : Inputs) → AllCanBeWritten t → IsBuilt t list command.folder before.files after.files (Err (stop.Faulty term kind)) ⊎ ((◌≡◌ {A = Result (List ℕ) Stop} (Err (stop.Faulty term kind)) (Err stop.NoMemory)) × (after.files ≡ before.files)) → ⊥
+      by_built t can (inl built) = no_page_fault t can list command.folder before.files after.files term kind built
       by_built t can (inr h) = (let same = h.0 in cc)
 
   -- a file of the one site of the inputs could not be written
-  no_unwritten : (s : Inputs) (path : List ℕ) → Ended (Ok s) → ¬ SiteRose s command.folder before.failed_writes after.failed_writes path → IsUnwritten command before after path → ⊥
+  no_unwritten : (s : Inputs) (path : List ℕ) → Ended (Ok s) → ¬ SiteRose s list command.folder before.failed_writes after.failed_writes path → IsUnwritten command before after path → ⊥
   no_unwritten s path taken no_write unwritten =
       let same : unwritten.builds.inputs ≡ s = ok_same unwritten.builds.inputs s (decides.once (Ok unwritten.builds.inputs) (Ok s) unwritten.builds.taken taken tt tt) in
-      no_write (subst (λ (t : Inputs). SiteRose t command.folder before.failed_writes after.failed_writes path) same unwritten.rose)
+      no_write (subst (λ (t : Inputs). SiteRose t list command.folder before.failed_writes after.failed_writes path) same unwritten.rose)
 
-  accepted : (reached : Status) → BuildEnds command before after reached → ReadRose Paths before.failed_reads after.failed_reads reached → AllRead Paths before after
-      → (s : Inputs) → Ended (Ok s) → AllCanBeWritten s → ¬ PutsRose before after → ((path : List ℕ) → ¬ SiteRose s command.folder before.failed_writes after.failed_writes path) → HasStatus status.Ok reached
+  accepted : (reached : Status) → BuildEnds command before after reached → ReadRose (build_paths command) before.failed_reads after.failed_reads reached → AllRead (build_paths command) before after
+      → (s : Inputs) → Ended (Ok s) → AllCanBeWritten s → ¬ PutsRose before after → ((path : List ℕ) → ¬ SiteRose s list command.folder before.failed_writes after.failed_writes path) → HasStatus status.Ok reached
   accepted status.Ok ends read all s taken writable no_put no_write = inl refl
   accepted status.NoMemory ends read all s taken writable no_put no_write = inr refl
   accepted (status.FileFault path) ends read all s taken writable no_put no_write = absurd (no_unwritten s path taken (no_write path) ends)
@@ -104,7 +126,7 @@ module _ (command : BuildCommand) (before after : Host) where
   not_built : {end : Result (List ℕ) Stop} (reason : Fault) → Ended (Err reason) → IsDecidedFault reason → Builds before.files after.files command end → ⊥
   not_built reason ended decided b = not_both Ended decides b.inputs reason b.taken ended decided
 
-  refused : (reached : Status) → BuildEnds command before after reached → ReadRose Paths before.failed_reads after.failed_reads reached → AllRead Paths before after
+  refused : (reached : Status) → BuildEnds command before after reached → ReadRose (build_paths command) before.failed_reads after.failed_reads reached → AllRead (build_paths command) before after
       → (reason : Fault) → Ended (Err reason) → IsDecidedFault reason → HasStatus (status_of reason) reached
   refused status.Ok ends read all reason ended decided = absurd (not_built reason ended decided ends.1)
   refused status.NoMemory ends read all reason ended decided = inr refl
@@ -112,7 +134,7 @@ module _ (command : BuildCommand) (before after : Host) where
   refused status.WriteFault ends read all reason ended decided = absurd (not_built reason ended decided ends.builds)
   refused (status.PageFault term kind) ends read all reason ended decided = absurd (not_built reason ended decided ends)
   refused (status.Refused file number place) ends read all reason ended decided =
-      by_reason Ended decides Paths before after all (fault.Refused (record { file = file; number = number; place = place })) tt ends.0 reason ended decided
+      by_reason Ended decides Paths before after (all_inputs all) (fault.Refused (record { file = file; number = number; place = place })) tt ends.0 reason ended decided
   refused (status.ReadFault path) ends read all reason ended decided = absurd (all path read.0 read.1)
   refused status.NotFound ends read all reason ended decided = absurd ends
   refused status.Usage ends read all reason ended decided = absurd ends

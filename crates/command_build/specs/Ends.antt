@@ -1,6 +1,7 @@
--- The command `build`: the whole site in files under a folder.
+-- The command `build`: the whole site in files under a folder, with `--clean` without the files of the last build that it no
+-- longer has.
 use Rattle.std.specs.Prelude.{◌≡◌, ◌⊎◌, ℕ, List, ◌++◌, length, codes, Option, Result, Ok, Err}
-use Rattle.std.specs.Prelude.{IfOk, ⊤}
+use Rattle.std.specs.Prelude.{IfOk, ⊤, Bool, true, None, Some, is_some, if◌then◌else◌}
 use Rattle.std.specs.Option.{ForSome}
 use Rattle.std.specs.Fmt.{decimal}
 use Rattle.sd_value.specs.declared.Term.{Term}
@@ -13,8 +14,9 @@ use Rattle.page_spec.specs.Page.{IsPresent}
 use Rattle.site_spec.specs.Root.{root_function}
 use Rattle.files_spec.specs.declared.stop.Stop.{Stop}
 use Rattle.files_spec.specs.declared.stop.Stop.TheVariants as stop
-use Rattle.files_spec.specs.Files.{SiteEnds}
-use Rattle.files_spec.specs.Causes.{IsSitePath}
+use Rattle.file_list.specs.Lists.{list_path}
+use Rattle.file_list.specs.Laws.{names_at}
+use Rattle.site_files.specs.Listed.{FilesEnd, IsFilesPath}
 use Rattle.run_report.specs.declared.status.Status.{Status}
 use Rattle.run_report.specs.declared.status.Status.TheVariants as status
 use Rattle.command_spec.specs.declared.BuildCommand.{BuildCommand}
@@ -32,27 +34,42 @@ abbrev pub written_end : {A : Type 0} → Result A Stop → Result ⊤ Stop
 written_end (Ok a) = Ok tt
 written_end (Err stop) = Err stop
 
--- the site's pages, ascending, were written so, and their number is what is printed
-pub record IsBuilt (s : Inputs) (folder : List ℕ) (old new : FileMap)
-    (end : Result (List ℕ) Stop) : Type 0 where
+-- The site's pages, ascending, were written so, where the old list, if there is to be one, has these names; and their number
+-- is what is printed.
+pub record IsBuilt (s : Inputs) (list : Option (List (List ℕ))) (folder : List ℕ)
+    (old new : FileMap) (end : Result (List ℕ) Stop) : Type 0 where
   pub pages : List Term
   pub are_pages : ListsExactly term_cmp (IsPresent (site_at s) s.templates) pages
-  pub files : SiteEnds (site_at s) s.templates folder pages (root_function s.query) old new
+  pub files : FilesEnd (site_at s) s.templates folder pages (root_function s.query) list old new
       (written_end end)
   pub told : IfOk end (λ text. text ≡ build_text (length pages))
 
 -- How building a site from its inputs ends: its files are written, or it is out of memory before the first of them.
 abbrev pub BuiltEnds
-    : Inputs → (folder : List ℕ) → (old new : FileMap) → Result (List ℕ) Stop → Type 0
-BuiltEnds s folder old new end =
-    IsBuilt s folder old new end ⊎ ((end ≡ Err stop.NoMemory) × (new ≡ old))
+    : Inputs → (list : Option (List (List ℕ))) → (folder : List ℕ) → (old new : FileMap)
+    → Result (List ℕ) Stop → Type 0
+BuiltEnds s list folder old new end =
+    IsBuilt s list folder old new end ⊎ ((end ≡ Err stop.NoMemory) × (new ≡ old))
 
--- the inputs were read, and building the site from them ended so
+-- the names of the list in the folder, with `--clean`
+abbrev pub old_list : (clean : Bool) → (folder : List ℕ) → FileMap → Option (List (List ℕ))
+old_list clean folder map = if clean then Some (names_at folder map) else None
+
+-- the inputs and the list were read, and building the site from them ended so
 pub record Builds (old new : FileMap) (command : BuildCommand)
     (end : Result (List ℕ) Stop) : Type 0 where
   pub inputs : Inputs
   pub taken : Spell old command.sources command.over command.query command.templates inputs
-  pub built : BuiltEnds inputs command.folder old new end
+  pub built : BuiltEnds inputs (old_list command.clean command.folder old) command.folder old new
+      end
+
+-- the inputs were read, but not the list at this path, and nothing was written
+pub record IsUnlisted (old new : FileMap) (command : BuildCommand) (path : List ℕ) : Type 0 where
+  pub inputs : Inputs
+  pub taken : Spell old command.sources command.over command.query command.templates inputs
+  pub is_clean : command.clean ≡ true
+  pub is_list : path ≡ list_path command.folder
+  pub same : new ≡ old
 
 -- an input was refused or unread, and nothing was written
 abbrev pub IsRefused : (old new : FileMap) → BuildCommand → Fault → Type 0
@@ -60,30 +77,37 @@ IsRefused old new command reason =
     Refuse old command.sources command.over command.query command.templates reason
     × (new ≡ old)
 
--- the path is that of one of the files, under the folder, of the site of these inputs
-pub record IsSiteFile (s : Inputs) (folder path : List ℕ) : Type 0 where
+-- the path is that of one of the files that the build of the site of these inputs writes or removes
+pub record IsSiteFile (s : Inputs) (list : Option (List (List ℕ))) (folder path : List ℕ)
+    : Type 0 where
   pub pages : List Term
   pub are_pages : ListsExactly term_cmp (IsPresent (site_at s) s.templates) pages
-  pub is_path : IsSitePath folder pages (root_function s.query) path
+  pub is_path : IsFilesPath folder pages (root_function s.query) list path
 
--- the path is that of one of the files of the site of these inputs, and its count of failed writes rose
+-- the path is that of one of these files, and its count of failed writes and removals rose
 abbrev pub SiteRose
-    : Inputs → (folder : List ℕ) → (before now : List ℕ → ℕ) → (path : List ℕ) → Type 0
-SiteRose s folder before now path = IsSiteFile s folder path × Rose (before path) (now path)
+    : Inputs → (list : Option (List (List ℕ))) → (folder : List ℕ) → (before now : List ℕ → ℕ)
+    → (path : List ℕ) → Type 0
+SiteRose s list folder before now path =
+    IsSiteFile s list folder path × Rose (before path) (now path)
 
--- The path is that of one of a site's files, and its count of failed writes rose. Where the contents of the files are
--- reported, the site is that of the command's inputs, which were accepted.
+-- The path is that of one of a build's files, and its count of failed writes and removals rose. Where the contents of the
+-- files are reported, the inputs are those of the command, which were accepted, and the list is the one that was there.
 pub record FileRose (contents : Option FileMap) (command : BuildCommand)
     (before now : List ℕ → ℕ) (path : List ℕ) : Type 0 where
   pub inputs : Inputs
   pub taken : ForSome contents
       (λ map. Spell map command.sources command.over command.query command.templates inputs)
-  pub rose : SiteRose inputs command.folder before now path
+  pub list : Option (List (List ℕ))
+  pub is_list : ForSome contents (λ map. list ≡ old_list command.clean command.folder map)
+  pub is_asked : is_some list ≡ command.clean
+  pub rose : SiteRose inputs list command.folder before now path
 
--- the site's file of the path could not be written, which was counted, and nothing was put
+-- the file of the path could not be written or removed, which was counted, and nothing was put
 pub record IsUnwritten (command : BuildCommand) (before after : Host) (path : List ℕ) : Type 0 where
   pub builds : Builds before.files after.files command (Err (stop.Unwritten path))
-  pub rose : SiteRose builds.inputs command.folder before.failed_writes after.failed_writes path
+  pub rose : SiteRose builds.inputs (old_list command.clean command.folder before.files)
+      command.folder before.failed_writes after.failed_writes path
   pub quiet : after.output ≡ before.output
 
 -- the site was written, and the output failed, which was counted, after a part of the text
@@ -110,6 +134,7 @@ BuildEnds command before after (status.Refused file number place) =
     (fault.Refused (record { file = file; number = number; place = place }))
 BuildEnds command before after (status.ReadFault path) =
     IsRefused before.files after.files command (fault.Unread path)
+    ⊎ IsUnlisted before.files after.files command path
 BuildEnds command before after status.NotFound = ⊥
 BuildEnds command before after status.Usage = ⊥
 BuildEnds command before after status.NotAllYes = ⊥

@@ -6,7 +6,7 @@ ghost use Rattle.command_spec.specs.declared.BuildCommand.{BuildCommand};
 ghost use Rattle.files_spec.specs.Standing.{StandingStays, WrittenStands};
 ghost use Rattle.site_inputs.specs.Outside.{Host};
 ghost use Rattle.site_inputs.specs.Sites.{Inputs, site_at};
-ghost use Rattle.command_build.specs.Law.{BuildEndsWell};
+ghost use Rattle.command_build.specs.Law.{BuildEndsWell, CleanLeavesSite};
 
 /// A build whose inputs are accepted, each page of which can be written, and which nothing outside fails, ends well; and an
 /// input that is refused ends it.
@@ -26,4 +26,10 @@ pub fn standing_files_stay()
 pub fn written_files_stand()
     ensures { (s : Inputs) (folder : List ℕ) (terms : List AnyTerm) (root : Option (List ℕ))
         → WrittenStands (site_at s) s.templates folder terms root }
+{}
+
+/// After a build with `--clean` that ends well the folder has the site's files, their list, nothing at the names of the last
+/// list that the site no longer has, unless a link leads there, and elsewhere what it had.
+pub fn clean_builds_leave_the_site()
+    ensures { CleanLeavesSite }
 {}

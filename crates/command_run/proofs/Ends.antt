@@ -22,7 +22,7 @@ use Rattle.site_inputs.specs.Outside.{Outside, host, outside}
 use Rattle.wire.specs.Told.{WireReport}
 use Rattle.run_report.specs.Report.{IsFixed}
 use Rattle.site_inputs.specs.Runs.{ReadsHaveCause}
-use Rattle.command_spec.specs.Inputs.{data_paths, input_paths}
+use Rattle.command_spec.specs.Inputs.{build_paths, data_paths, input_paths}
 use Rattle.site_inputs.specs.Statuses.{ReadRose, IsSilent, status_of}
 use Rattle.command_build.specs.Ends.{BuildEnds, FileRose}
 use Rattle.command_spec.specs.Inputs.{inputs_of_command, inputs_of_report, inputs_of_text, given_inputs}
@@ -52,7 +52,7 @@ report_read_rose given c answer old new before now status is h cause =
     subst (λ (d : Command). ReadRose (inputs_of_command d) before now status) (sym is) (answer_read_rose (λ (r : Report). r) (inputs_of_report c) answer old new before now status h cause)
 
 pub build_read_rose : (given : Command) (c : BuildCommand) (before now : List ℕ → ℕ) (status : Status) → given ≡ command.Build c
-    → ReadRose (input_paths (data_paths c.sources c.over) c.query c.templates) before now status → ReadRose (inputs_of_command given) before now status
+    → ReadRose (build_paths c) before now status → ReadRose (inputs_of_command given) before now status
 build_read_rose given c before now status is h = subst (λ (d : Command). ReadRose (inputs_of_command d) before now status) (sym is) h
 
 pub serve_read_rose : (given : Command) (c : ServeCommand) (before now : List ℕ → ℕ) (status : Status) → given ≡ command.Serve c

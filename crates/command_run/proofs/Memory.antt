@@ -1,5 +1,5 @@
 -- How a build or a run over connections ends that is out of memory.
-use Rattle.std.proofs.Common.{◌≡◌, ℕ, List, inl, inr, refl, sym, subst, ◌∙◌}
+use Rattle.std.proofs.Common.{◌≡◌, ℕ, List, inl, inr, ⊎_elim, refl, sym, subst, ◌∙◌}
 use Rattle.std.specs.Prelude.{Option, None, Some}
 use Rattle.std.specs.Prelude as prelude
 use Rattle.edge_io.specs.Files.{FileMap}
@@ -58,7 +58,7 @@ module _ (command : BuildCommand) (before after : Host) where
   memory_build_ends (FileFault path) reported ends silent fixed memory = absurd (file_no_memory path reported (fixed tt) memory)
   memory_build_ends (PageFault term kind) reported ends silent fixed memory = (inr (faulty_is_no_memory before.files after.files command term kind ends), silent tt)
   memory_build_ends (Refused file number place) reported ends silent fixed memory = (inl ends.1, silent tt)
-  memory_build_ends (ReadFault path) reported ends silent fixed memory = (inl ends.1, silent tt)
+  memory_build_ends (ReadFault path) reported ends silent fixed memory = (inl (⊎_elim (λ refused. refused.1) (λ unlisted. unlisted.same) ends), silent tt)
   memory_build_ends Usage reported ends silent fixed memory = absurd ends
   memory_build_ends NotAllYes reported ends silent fixed memory = absurd ends
   memory_build_ends WireFault reported ends silent fixed memory = absurd ends

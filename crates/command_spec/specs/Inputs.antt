@@ -1,5 +1,7 @@
 -- The files that a command reads, in the order in which it reads them.
-use Rattle.std.specs.Prelude.{ℕ, List, [], ◌∷◌, ◌++◌, Option, None, Some}
+use Rattle.std.specs.Prelude.{ℕ, List, [], ◌∷◌, ◌++◌, Option, None, Some, if◌then◌else◌}
+use Rattle.files_spec.specs.Paths.{list_path}
+use Rattle.command_spec.specs.declared.BuildCommand.{BuildCommand}
 use Rattle.command_spec.specs.declared.DataFiles.{DataFiles}
 use Rattle.command_spec.specs.declared.ExplainCommand.{ExplainCommand}
 use Rattle.command_spec.specs.declared.ReplayCommand.{ReplayCommand}
@@ -18,6 +20,12 @@ data_paths sources (Some first) = sources.paths ++ (first ∷ [])
 -- the inputs of a site: those of the data, the query and the templates
 abbrev pub input_paths : (of_data : List (List ℕ)) (query templates : List ℕ) → List (List ℕ)
 input_paths of_data query templates = of_data ++ (query ∷ templates ∷ [])
+
+-- those of `build`: the inputs of its site, and with `--clean` the list of the files in its folder
+abbrev pub build_paths : BuildCommand → List (List ℕ)
+build_paths command =
+    input_paths (data_paths command.sources command.over) command.query command.templates
+    ++ (if command.clean then list_path command.folder ∷ [] else [])
 
 -- those of `explain`: the data and the query
 abbrev pub explain_paths : ExplainCommand → List (List ℕ)
@@ -55,7 +63,7 @@ inputs_of_report (Lint c) = input_paths c.sources.paths c.query c.templates
 abbrev pub inputs_of_command : Command → List (List ℕ)
 inputs_of_command (Text c) = inputs_of_text c
 inputs_of_command (Report c) = inputs_of_report c
-inputs_of_command (Build c) = input_paths (data_paths c.sources c.over) c.query c.templates
+inputs_of_command (Build c) = build_paths c
 inputs_of_command (Serve c) = input_paths (data_paths c.sources c.over) c.query c.templates
 inputs_of_command (Replay c) = replay_paths c
 

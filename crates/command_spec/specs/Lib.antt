@@ -2,6 +2,7 @@ pub mod Limits
 pub mod Options
 pub mod Values
 pub mod Numbers
+pub mod Flags
 pub mod Rows
 pub mod DataFiles
 pub mod Words

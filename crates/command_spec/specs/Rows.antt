@@ -1,8 +1,8 @@
 -- The table of the commands: a row for each.
-use Rattle.std.specs.Prelude.{ℕ, List, [], ◌∷◌, ◌++◌, find, Bool, true, false, Option, None, Some}
-use Rattle.std.specs.Prelude.{if◌then◌else◌, codes}
-use Rattle.std.specs.Option.{option_copied}
+use Rattle.std.specs.Prelude.{ℕ, List, [], ◌∷◌, ◌++◌, find, Option, codes}
 use Rattle.std.specs.Str.{bytes_eq}
+use Rattle.command_spec.specs.declared.flags.Flag.{Flag}
+use Rattle.command_spec.specs.declared.flags.Flag.TheVariants.{Durable, Clean, Dot, Here, Whole, Lenient}
 use Rattle.command_spec.specs.declared.numbers.NumberOption.TheVariants.{Port, Connections, Requests}
 use Rattle.command_spec.specs.declared.numbers.NumberOption.TheVariants.{Turns, Cache, CacheBytes, Idle, Stall, OpenAtOnce, Every}
 use Rattle.command_spec.specs.declared.options.TextOption.TheVariants.{Host, Watch, Log, Over}
@@ -13,13 +13,12 @@ use Rattle.command_spec.specs.declared.rows.CommandName.{CommandName}
 use Rattle.command_spec.specs.declared.rows.CommandName.TheVariants.{Page, Build, Data, Explain, Schema, Check, Lint}
 use Rattle.command_spec.specs.declared.rows.CommandName.TheVariants.{Serve, Replay, Trial, Help, Version}
 
--- What is fixed of a command: its name, its options that have a value, its option without a value, if it has one, whether
--- it reads data, and so has the option `--lenient` too, its lines of the program's usage, and its own usage.
+-- What is fixed of a command: its name, its options that have a value, those without one, its lines of the program's usage,
+-- and its own usage.
 pub record Row : Type 0 where
   pub name : List ℕ
   pub options : List ValueOption
-  pub flag : Option (List ℕ)
-  pub reads_data : Bool
+  pub flags : List Flag
   pub summary : List ℕ
   pub usage : List ℕ
 
@@ -39,13 +38,16 @@ options_of_replay =
 abbrev pub options_of_page : List ValueOption
 options_of_page = Text Over ∷ []
 
+-- the option without a value of each command that reads data
+abbrev pub flags_of_data : List Flag
+flags_of_data = Lenient ∷ []
+
 -- the row of `page`
 abbrev pub page_row : Row
 page_row = record {
   name = codes "page";
   options = options_of_page;
-  flag = None;
-  reads_data = true;
+  flags = flags_of_data;
   summary =
       codes "  page QUERY TEMPLATES ADDRESS DATA..    prints one page\n";
   usage =
@@ -64,8 +66,7 @@ abbrev pub build_row : Row
 build_row = record {
   name = codes "build";
   options = options_of_page;
-  flag = Some (codes "--durable");
-  reads_data = true;
+  flags = Durable ∷ Clean ∷ Lenient ∷ [];
   summary =
       codes "  build QUERY TEMPLATES DIR DATA..       writes every page to its file under a folder\n";
   usage =
@@ -77,6 +78,7 @@ build_row = record {
       ++ codes "  DATA             a data file: data text, CSV, JSON or BibTeX\n"
       ++ codes "  --over FILE      a first query, whose site over the data files is the data\n"
       ++ codes "  --durable        waits for each file until it is on the disk\n"
+      ++ codes "  --clean          removes the files of the last such build that the site no longer has\n"
       ++ codes "  --lenient        reads CSV, JSON and BibTeX by the lenient rules\n";
 }
 
@@ -85,8 +87,7 @@ abbrev pub data_row : Row
 data_row = record {
   name = codes "data";
   options = options_of_page;
-  flag = None;
-  reads_data = true;
+  flags = flags_of_data;
   summary =
       codes "  data DATA..                            prints the data\n";
   usage =
@@ -102,8 +103,7 @@ abbrev pub explain_row : Row
 explain_row = record {
   name = codes "explain";
   options = [];
-  flag = None;
-  reads_data = true;
+  flags = flags_of_data;
   summary =
       codes "  explain QUERY DATA..                   prints the plan of each block of the query\n";
   usage =
@@ -119,8 +119,7 @@ abbrev pub schema_row : Row
 schema_row = record {
   name = codes "schema";
   options = [];
-  flag = Some (codes "--dot");
-  reads_data = false;
+  flags = Dot ∷ [];
   summary =
       codes "  schema QUERY                           prints the functions and the links of the site\n";
   usage =
@@ -135,8 +134,7 @@ abbrev pub check_row : Row
 check_row = record {
   name = codes "check";
   options = [];
-  flag = Some (codes "--here");
-  reads_data = true;
+  flags = Here ∷ Lenient ∷ [];
   summary =
       codes "  check QUERY CONSTRAINTS                prints which constraints are proved for all data\n"
       ++ codes "  check --here QUERY CONSTRAINTS DATA..  prints whether the site meets its constraints\n";
@@ -157,8 +155,7 @@ abbrev pub lint_row : Row
 lint_row = record {
   name = codes "lint";
   options = [];
-  flag = None;
-  reads_data = true;
+  flags = flags_of_data;
   summary =
       codes "  lint QUERY TEMPLATES DATA..            prints likely mistakes in query and templates\n";
   usage =
@@ -175,8 +172,7 @@ abbrev pub serve_row : Row
 serve_row = record {
   name = codes "serve";
   options = options_of_serve;
-  flag = Some (codes "--whole");
-  reads_data = true;
+  flags = Whole ∷ Lenient ∷ [];
   summary =
       codes "  serve QUERY TEMPLATES DATA..           serves the site over HTTP\n";
   usage =
@@ -209,8 +205,7 @@ abbrev pub replay_row : Row
 replay_row = record {
   name = codes "replay";
   options = options_of_replay;
-  flag = None;
-  reads_data = true;
+  flags = flags_of_data;
   summary =
       codes "  replay QUERY TEMPLATES SCRIPT DATA..   serves the site over the events of a script\n";
   usage =
@@ -234,8 +229,7 @@ abbrev pub trial_row : Row
 trial_row = record {
   name = codes "trial";
   options = [];
-  flag = None;
-  reads_data = false;
+  flags = [];
   summary =
       codes "  trial N                                serves a site of made data, and counts\n";
   usage =
@@ -249,8 +243,7 @@ abbrev pub help_row : Row
 help_row = record {
   name = codes "help";
   options = [];
-  flag = None;
-  reads_data = false;
+  flags = [];
   summary =
       codes "  help [COMMAND]                         prints this text, or that of one command\n";
   usage =
@@ -264,8 +257,7 @@ abbrev pub version_row : Row
 version_row = record {
   name = codes "version";
   options = [];
-  flag = None;
-  reads_data = false;
+  flags = [];
   summary =
       codes "  version                                prints the version of the program and of its kit\n";
   usage =
@@ -298,17 +290,12 @@ names =
 abbrev pub name_of : List ℕ → Option CommandName
 name_of word = find (λ name. bytes_eq (row name).name word) names
 
--- `--lenient`, if the command reads data
-abbrev pub lenient_flag : Row → Option (List ℕ)
-lenient_flag row = if row.reads_data then Some (codes "--lenient") else None
-
 -- a row of the program's table as one of these definitions
 abbrev pub row_of : CommandRow → Row
 row_of row = record {
   name = row.name.now;
   options = row.options.now;
-  flag = option_copied row.flag;
-  reads_data = row.reads_data;
+  flags = row.flags.now;
   summary = row.summary.now;
   usage = row.usage.now;
 }

@@ -1,5 +1,5 @@
 -- Which words give a command.
-use Rattle.std.specs.Prelude.{ℕ, suc, ◌+◌, ◌==◌, List, [], ◌∷◌, ◌++◌, take, drop, Bool, true, false, ◌&&◌, ◌||◌, not}
+use Rattle.std.specs.Prelude.{ℕ, suc, ◌+◌, ◌==◌, List, [], ◌∷◌, ◌++◌, take, drop, fold, Bool, true, false, ◌&&◌, ◌||◌, not}
 use Rattle.std.specs.Prelude.{Option, None, Some, option_map, option_and_then, if◌then◌else◌, codes}
 use Rattle.std.specs.List.{list_all, list_any, slice_split}
 use Rattle.std.specs.Str.{bytes_eq, is_utf8}
@@ -10,7 +10,8 @@ use Rattle.command_spec.specs.declared.options.TextOption.TheVariants.{Host, Wat
 use Rattle.command_spec.specs.declared.options.ValueOption.TheVariants as values
 use Rattle.command_spec.specs.declared.rows.CommandName.{CommandName}
 use Rattle.command_spec.specs.declared.rows.CommandName.TheVariants as names
-use Rattle.command_spec.specs.declared.rows.Flags.{Flags}
+use Rattle.command_spec.specs.declared.flags.Flag.{Flag}
+use Rattle.command_spec.specs.declared.flags.Flags.{Flags}
 use Rattle.command_spec.specs.declared.RunLimits.{RunLimits}
 use Rattle.command_spec.specs.declared.ServeOptions.{ServeOptions}
 use Rattle.command_spec.specs.declared.ServeWaits.{ServeWaits}
@@ -20,7 +21,8 @@ use Rattle.command_spec.specs.declared.Command.TheVariants.{Text, Report, Build,
 use Rattle.command_spec.specs.declared.ReportCommand.TheVariants.{Check, CheckAll, Lint}
 use Rattle.command_spec.specs.declared.TextCommand.TheVariants.{Page, Data, Explain, Schema, Trial, Help, Version}
 use Rattle.command_spec.specs.DataFiles.{data_files}
-use Rattle.command_spec.specs.Rows.{row, name_of, lenient_flag}
+use Rattle.command_spec.specs.Flags.{flag_word, no_flags, with_flag}
+use Rattle.command_spec.specs.Rows.{row, name_of}
 use Rattle.command_spec.specs.Options.{Parts, is_empty, parts_of}
 use Rattle.command_spec.specs.Numbers.{number, number_of, number_or_default}
 use Rattle.command_spec.specs.Values.{Given, are_options, given_in}
@@ -48,7 +50,7 @@ page_command lenient over (query ∷ templates ∷ address ∷ source ∷ source
     })))
 page_command lenient over words = None
 
--- the words of `build`, whose flag has it wait for the disk
+-- the words of `build`, whose flags have it wait for the disk and remove what the site no longer has
 abbrev pub build_command : Flags → Option (List ℕ) → List (List ℕ) → Option Command
 build_command flags over (query ∷ templates ∷ folder ∷ source ∷ sources) =
     Some (Build (record {
@@ -57,7 +59,8 @@ build_command flags over (query ∷ templates ∷ folder ∷ source ∷ sources)
       folder = folder;
       sources = data_files flags.lenient (source ∷ sources);
       over = over;
-      durable = flags.own;
+      durable = flags.durable;
+      clean = flags.clean;
     }))
 build_command flags over words = None
 
@@ -81,13 +84,13 @@ schema_command dot words = None
 -- `check` over every data graph has no flag
 abbrev pub check_all_command : Flags → List ℕ → List ℕ → Option Command
 check_all_command flags query constraints =
-    if flags.own || flags.lenient then None
+    if flags.here || flags.lenient then None
     else Some (Report (CheckAll (record { query = query; constraints = constraints })))
 
 -- `check` over data has its flag
 abbrev pub check_here_command : Flags → List ℕ → List ℕ → List (List ℕ) → Option Command
 check_here_command flags query constraints sources =
-    if flags.own then
+    if flags.here then
     Some (Report (Check (record {
       query = query;
       constraints = constraints;
@@ -251,7 +254,7 @@ first_query given = given (values.Text Over)
 -- `serve` with these options and words
 abbrev pub serve_with_words : Flags → Given → List (List ℕ) → Option Command
 serve_with_words flags given words = do
-  options ← serve_options flags.own given
+  options ← serve_options flags.whole given
   watch ← serve_watch given
   serve_command options watch (log_file given) flags.lenient (first_query given) words
 
@@ -267,7 +270,7 @@ command_of names.Page flags given words = page_command flags.lenient (first_quer
 command_of names.Build flags given words = build_command flags (first_query given) words
 command_of names.Data flags given words = data_command flags.lenient (first_query given) words
 command_of names.Explain flags given words = explain_command flags.lenient words
-command_of names.Schema flags given words = schema_command flags.own words
+command_of names.Schema flags given words = schema_command flags.dot words
 command_of names.Check flags given words = check_command flags words
 command_of names.Lint flags given words = lint_command flags.lenient words
 command_of names.Serve flags given words = serve_with_words flags given words
@@ -287,9 +290,9 @@ named_command name flags (Some parts) =
 
 -- ---- flags: options without a value
 
--- whether a flag was among words, and the other words
+-- the flags that were among words, and the other words
 pub record Taken : Type 0 where
-  pub set : Bool
+  pub flags : Flags
   pub rest : List (List ℕ)
 
 -- where the flag stands first before a `--`, if it stands there at all
@@ -301,28 +304,28 @@ flag_place flag (word ∷ words) =
     else option_map suc (flag_place flag words)
 
 -- the words without the one at this place, if the flag stands at one
-abbrev pub taken_at : List (List ℕ) → Option ℕ → Taken
-taken_at words None = record { set = false; rest = words }
-taken_at words (Some at) = record { set = true; rest = take at words ++ drop (at + 1) words }
+abbrev pub taken_at : Flag → Taken → Option ℕ → Taken
+taken_at flag taken None = taken
+taken_at flag taken (Some at) = record {
+  flags = with_flag flag taken.flags;
+  rest = take at taken.rest ++ drop (at + 1) taken.rest;
+}
 
--- the words without the flag, if there is such a flag
-abbrev pub take_flag : Option (List ℕ) → List (List ℕ) → Taken
-take_flag None words = taken_at words None
-take_flag (Some flag) words = taken_at words (flag_place flag words)
+-- the flag is taken out too, once, if it stands among the words
+abbrev pub take_flag : Taken → Flag → Taken
+take_flag taken flag = taken_at flag taken (flag_place (flag_word flag) taken.rest)
 
--- the command of this name, read leniently or not, once its own flag is taken out
-abbrev pub flagged_command : CommandName → (lenient : Bool) → (own : Taken) → Option Command
-flagged_command name lenient own =
-    named_command name (record { own = own.set; lenient = lenient }) (parts_of None own.rest)
+-- the words without these flags, each of which is taken out once
+abbrev pub take_flags : List Flag → List (List ℕ) → Taken
+take_flags flags words = fold take_flag (record { flags = no_flags; rest = words }) flags
 
--- the command of this name, once `--lenient` is taken out
-abbrev pub lenient_command : CommandName → (lenient : Taken) → Option Command
-lenient_command name lenient =
-    flagged_command name lenient.set (take_flag (row name).flag lenient.rest)
+-- the command of this name, once its flags are taken out
+abbrev pub flagged_command : CommandName → Taken → Option Command
+flagged_command name taken = named_command name taken.flags (parts_of None taken.rest)
 
 -- the command of this name, by the words after the name
 abbrev pub command_by : CommandName → List (List ℕ) → Option Command
-command_by name words = lenient_command name (take_flag (lenient_flag (row name)) words)
+command_by name words = flagged_command name (take_flags (row name).flags words)
 
 -- what the words say, each of which is a text: the first is the name of a command
 abbrev pub given_command : List (List ℕ) → Option Command

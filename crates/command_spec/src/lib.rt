@@ -5,15 +5,17 @@
 ghost use Rattle.std.specs.Prelude.{◌≡◌, IfOk, map};
 ghost use Rattle.command_spec.specs.DataFiles.{data_files};
 
+mod flags;
 mod limits;
 mod numbers;
 mod options;
 mod rows;
 
+pub use flags::{Flag, Flags};
 pub use limits::{DATA_LIMIT, SCRIPT_LIMIT, TEXT_LIMIT};
 pub use numbers::NumberOption;
 pub use options::{TextOption, ValueOption};
-pub use rows::{CommandName, CommandRow, Flags};
+pub use rows::{CommandName, CommandRow};
 use sd_value::{NoMemory, Str};
 use std::alloc::Global;
 use std::marker::Model;
@@ -84,8 +86,8 @@ pub struct PageCommand {
     pub over: Option<Str>,
 }
 
-/// `build [--durable] [--lenient] [--over FILE] QUERY TEMPLATES DIR DATA..`: the whole site is written to files under a
-/// folder.
+/// `build [--durable] [--clean] [--lenient] [--over FILE] QUERY TEMPLATES DIR DATA..`: the whole site is written to files under
+/// a folder.
 #[derive(Debug, Drop)]
 pub struct BuildCommand {
     pub query: Str,
@@ -96,6 +98,8 @@ pub struct BuildCommand {
     pub over: Option<Str>,
     /// Whether each file is to be on the disk before the next one is written.
     pub durable: bool,
+    /// Whether the files of the last such build that the site no longer has are removed.
+    pub clean: bool,
 }
 
 /// `data [--lenient] [--over FILE] DATA..`: the data are printed, the union of the data files or a first query's site over it.

@@ -1,8 +1,8 @@
 // The table of the commands: a row for each.
 ghost use Rattle.std.specs.Prelude.{◌≡◌};
-ghost use Rattle.std.specs.Option.{option_copied};
 ghost use Rattle.command_spec.specs.Rows as specs;
 
+use crate::flags::Flag;
 use crate::numbers::NumberOption;
 use crate::options::{TextOption, ValueOption};
 
@@ -30,26 +30,15 @@ pub struct CommandRow {
     pub name: &'static str,
     /// Its options that have a value.
     pub options: &'static [ValueOption],
-    /// Its option without a value, if it has one.
-    pub flag: Option<&'static str>,
-    /// Whether it reads data, and so has the option `--lenient` too.
-    pub reads_data: bool,
+    /// Its options without a value.
+    pub flags: &'static [Flag],
     /// Its lines of the program's usage.
     pub summary: &'static [u8],
     /// Its usage.
     pub usage: &'static [u8],
 }
 
-/// The options without a value that are given to a command.
-#[derive(Clone, Copy, Debug, PartialEq, Eq)]
-pub struct Flags {
-    /// Its own.
-    pub own: bool,
-    /// `--lenient`, of a command that reads data.
-    pub lenient: bool,
-}
-
-const LENIENT: &str = "--lenient";
+const DATA_FLAGS: &[Flag] = &[Flag::Lenient];
 
 const PAGE_OPTIONS: &[ValueOption] = &[ValueOption::Text(TextOption::Over)];
 
@@ -82,8 +71,7 @@ const SERVE_OPTIONS: &[ValueOption] = &[
 const PAGE: CommandRow = CommandRow {
     name: "page",
     options: PAGE_OPTIONS,
-    flag: None,
-    reads_data: true,
+    flags: DATA_FLAGS,
     summary: b"\
 \x20 page QUERY TEMPLATES ADDRESS DATA..    prints one page\n",
     usage: b"\
@@ -102,8 +90,7 @@ Prints the page of the site that has this address.\n\
 const BUILD: CommandRow = CommandRow {
     name: "build",
     options: PAGE_OPTIONS,
-    flag: Some("--durable"),
-    reads_data: true,
+    flags: &[Flag::Durable, Flag::Clean, Flag::Lenient],
     summary: b"\
 \x20 build QUERY TEMPLATES DIR DATA..       writes every page to its file under a folder\n",
     usage: b"\
@@ -117,14 +104,14 @@ Writes every page of the site to its file, and prints how many there are.\n\
 \x20 DATA             a data file: data text, CSV, JSON or BibTeX\n\
 \x20 --over FILE      a first query, whose site over the data files is the data\n\
 \x20 --durable        waits for each file until it is on the disk\n\
+\x20 --clean          removes the files of the last such build that the site no longer has\n\
 \x20 --lenient        reads CSV, JSON and BibTeX by the lenient rules\n",
 };
 
 const DATA: CommandRow = CommandRow {
     name: "data",
     options: PAGE_OPTIONS,
-    flag: None,
-    reads_data: true,
+    flags: DATA_FLAGS,
     summary: b"\
 \x20 data DATA..                            prints the data\n",
     usage: b"\
@@ -140,8 +127,7 @@ Prints the data as one data text.\n\
 const EXPLAIN: CommandRow = CommandRow {
     name: "explain",
     options: &[],
-    flag: None,
-    reads_data: true,
+    flags: DATA_FLAGS,
     summary: b"\
 \x20 explain QUERY DATA..                   prints the plan of each block of the query\n",
     usage: b"\
@@ -157,8 +143,7 @@ Prints the plan of each block of the query over the data.\n\
 const SCHEMA: CommandRow = CommandRow {
     name: "schema",
     options: &[],
-    flag: Some("--dot"),
-    reads_data: false,
+    flags: &[Flag::Dot],
     summary: b"\
 \x20 schema QUERY                           prints the functions and the links of the site\n",
     usage: b"\
@@ -173,8 +158,7 @@ Prints the functions and the links of the site.\n\
 const CHECK: CommandRow = CommandRow {
     name: "check",
     options: &[],
-    flag: Some("--here"),
-    reads_data: true,
+    flags: &[Flag::Here, Flag::Lenient],
     summary: b"\
 \x20 check QUERY CONSTRAINTS                prints which constraints are proved for all data\n\
 \x20 check --here QUERY CONSTRAINTS DATA..  prints whether the site meets its constraints\n",
@@ -195,8 +179,7 @@ With --here: whether the site of these data meets it.\n\
 const LINT: CommandRow = CommandRow {
     name: "lint",
     options: &[],
-    flag: None,
-    reads_data: true,
+    flags: DATA_FLAGS,
     summary: b"\
 \x20 lint QUERY TEMPLATES DATA..            prints likely mistakes in query and templates\n",
     usage: b"\
@@ -213,8 +196,7 @@ Prints likely mistakes in the query and the templates, each with its place.\n\
 const SERVE: CommandRow = CommandRow {
     name: "serve",
     options: SERVE_OPTIONS,
-    flag: Some("--whole"),
-    reads_data: true,
+    flags: &[Flag::Whole, Flag::Lenient],
     summary: b"\
 \x20 serve QUERY TEMPLATES DATA..           serves the site over HTTP\n",
     usage: b"\
@@ -246,8 +228,7 @@ Serves the pages of the site on 127.0.0.1 over HTTP.\n\
 const REPLAY: CommandRow = CommandRow {
     name: "replay",
     options: REPLAY_OPTIONS,
-    flag: None,
-    reads_data: true,
+    flags: DATA_FLAGS,
     summary: b"\
 \x20 replay QUERY TEMPLATES SCRIPT DATA..   serves the site over the events of a script\n",
     usage: b"\
@@ -271,8 +252,7 @@ Serves the pages of the site to the connections of a script, and prints the repl
 const TRIAL: CommandRow = CommandRow {
     name: "trial",
     options: &[],
-    flag: None,
-    reads_data: false,
+    flags: &[],
     summary: b"\
 \x20 trial N                                serves a site of made data, and counts\n",
     usage: b"\
@@ -286,8 +266,7 @@ Asks for the pages of a site of made data, and prints what was counted.\n\
 const HELP: CommandRow = CommandRow {
     name: "help",
     options: &[],
-    flag: None,
-    reads_data: false,
+    flags: &[],
     summary: b"\
 \x20 help [COMMAND]                         prints this text, or that of one command\n",
     usage: b"\
@@ -301,8 +280,7 @@ Prints the usage of the program, or of one command.\n\
 const VERSION: CommandRow = CommandRow {
     name: "version",
     options: &[],
-    flag: None,
-    reads_data: false,
+    flags: &[],
     summary: b"\
 \x20 version                                prints the version of the program and of its kit\n",
     usage: b"\
@@ -364,14 +342,5 @@ impl CommandName {
             }
         }
         None
-    }
-}
-
-impl CommandRow {
-    /// `--lenient`, if the command reads data.
-    pub fn lenient_flag(&self) -> Option<&'static str>
-        ensures { option_copied result ≡ specs.lenient_flag (specs.row_of self.now) }
-    {
-        if self.reads_data { Some(LENIENT) } else { None }
     }
 }

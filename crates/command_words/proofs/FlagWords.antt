@@ -6,7 +6,13 @@ use Rattle.std.specs.List.{list_all}
 use Rattle.std.specs.Borrow.{Bor}
 use Rattle.std.proofs.lemmas.List.{length-map, get_or-map}
 use Rattle.clap.specs.Walk.{Text, texts}
-use Rattle.command_spec.specs.Words.{is_word, flag_place, take_flag, taken_at}
+use Rattle.std.specs.Prelude.{fold}
+use Rattle.std.proofs.lemmas.List.Sums.{fold_more}
+use Rattle.command_spec.specs.declared.flags.Flag.{Flag}
+use Rattle.command_spec.specs.declared.flags.Flags.{Flags}
+use Rattle.command_spec.specs.Flags.{flag_word, no_flags, with_flag}
+use Rattle.command_spec.specs.Words.{Taken, is_word, flag_place, take_flag, take_flags, taken_at}
+use Rattle.command_words.specs.Parsed.{taken_of}
 
 -- the first i words are neither the flag nor `--`
 abbrev pub IsPast : Text → List Text → ℕ → Type 0
@@ -107,11 +113,35 @@ words_but (w ∷ ws) (suc at) all =
 next : (at : ℕ) → at + 1 ≡ suc at
 next at = omega arith
 
-taken_words : (words : List Text) (place : Option ℕ) → list_all is_word words ≡ true → list_all is_word (taken_at words place).rest ≡ true
-taken_words words None all = all
-taken_words words (Some at) all = ap (λ n. list_all is_word (take at words ++ drop n words)) (next at) ∙ words_but words at all
+taken_words : (flag : Flag) (taken : Taken) (place : Option ℕ) → list_all is_word taken.rest ≡ true → list_all is_word (taken_at flag taken place).rest ≡ true
+taken_words flag taken None all = all
+taken_words flag taken (Some at) all = ap (λ n. list_all is_word (take at taken.rest ++ drop n taken.rest)) (next at) ∙ words_but taken.rest at all
+
+folded_words : (flags : List Flag) (taken : Taken) → list_all is_word taken.rest ≡ true → list_all is_word (fold take_flag taken flags).rest ≡ true
+folded_words [] taken all = all
+folded_words (flag ∷ flags) taken all = folded_words flags (take_flag taken flag) (taken_words flag taken (flag_place (flag_word flag) taken.rest) all)
+
+-- no flag is taken out yet
+abbrev pub start : List Text → Taken
+start words = record { flags = no_flags; rest = words }
 
 -- they are texts too
-pub rest_words : (flag : Option Text) (words : List Text) → list_all is_word words ≡ true → list_all is_word (take_flag flag words).rest ≡ true
-rest_words None words all = all
-rest_words (Some flag) words all = taken_words words (flag_place flag words) all
+pub rest_words : (flags : List Flag) (words : List Text) → list_all is_word words ≡ true → list_all is_word (take_flags flags words).rest ≡ true
+rest_words flags words all = folded_words flags (start words) all
+
+-- one flag more
+pub taken_more : (flags : List Flag) (words : List Text) (i : ℕ) (flag : Flag) (before now : Taken) → i < length flags → flag ≡ get_or flags i flag
+    → before ≡ fold take_flag (start words) (take i flags) → now ≡ take_flag before flag → now ≡ fold take_flag (start words) (take (i + 1) flags)
+taken_more flags words i flag before now lt is e n =
+    n ∙ ap (λ t. take_flag t flag) e ∙ ap (take_flag (fold take_flag (start words) (take i flags))) is
+    ∙ sym (fold_more take_flag (start words) flags i flag lt)
+
+-- the flag stands nowhere, or at a place
+pub none_taken : (flag : Flag) (taken : Taken) → None ≡ flag_place (flag_word flag) taken.rest → taken ≡ take_flag taken flag
+none_taken flag taken is = ap (taken_at flag taken) is
+
+pub one_taken : (flag : Flag) (flags : Flags) (words others : List (Bor Text)) (at : ℕ) → Some at ≡ flag_place (flag_word flag) (texts words)
+    → texts others ≡ take at (texts words) ++ drop (at + 1) (texts words)
+    → taken_of (with_flag flag flags) others ≡ take_flag (taken_of flags words) flag
+one_taken flag flags words others at is left =
+    ap (λ ws. record { flags = with_flag flag flags; rest = ws }) left ∙ ap (taken_at flag (taken_of flags words)) is

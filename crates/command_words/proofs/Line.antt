@@ -1,15 +1,16 @@
 -- The line of a command's name and the words after it, of which `clap` reads the command.
-use Rattle.std.proofs.Common.{◌≡◌, ◌∙◌, ◌≤◌, Bool, true, refl, ap, ap₂, arith, List, [], ◌∷◌, ◌++◌, length, Option, None}
+use Rattle.std.proofs.Common.{◌≡◌, ◌∙◌, ◌≤◌, Bool, true, refl, ap, arith, List, [], ◌∷◌, ◌++◌, length, Option, None}
 use Rattle.std.specs.List.{list_all}
 use Rattle.std.specs.Borrow.{Bor}
 use Rattle.clap.specs.Walk.{Text, texts}
 use Rattle.command_spec.specs.declared.rows.CommandName.{CommandName}
-use Rattle.command_spec.specs.declared.rows.Flags.{Flags}
+use Rattle.command_spec.specs.declared.flags.Flag.{Flag}
+use Rattle.command_spec.specs.declared.flags.Flags.{Flags}
 use Rattle.command_spec.specs.Options.{parts_of}
-use Rattle.command_spec.specs.Rows.{row, lenient_flag}
-use Rattle.command_spec.specs.Words.{is_word, help_command, named_command, take_flag}
+use Rattle.command_spec.specs.Rows.{row}
+use Rattle.command_spec.specs.Words.{Taken, is_word, help_command, named_command, flagged_command, command_by, take_flags}
 use Rattle.command_words.specs.Parsed as parsed
-use Rattle.command_words.specs.Parsed.{IsTaken}
+use Rattle.command_words.specs.Parsed.{taken_of}
 use Rattle.command_words.proofs.FlagWords.{rest_words}
 use Rattle.command_words.proofs.Whole.{are_words, by_name}
 
@@ -31,18 +32,14 @@ no_help (w ∷ v ∷ ws) two = refl
 
 -- ---- the flags are taken out
 
-module _ (name : CommandName) (words passed first read second : List (Bor Text)) (lenient own : Bool) (common its : Option Text)
-    (is_common : common ≡ lenient_flag (row name)) (is_own : its ≡ (row name).flag)
-    (taken : IsTaken lenient first (take_flag common (texts words))) (pass : passed ≡ first)
-    (own_taken : IsTaken own second (take_flag its (texts passed))) (same : read ≡ second) where
-  abbrev rest : List Text
-  rest = (take_flag (lenient_flag (row name)) (texts words)).rest
+pub words_left : (flags : List Flag) (words read rest : List (Bor Text)) (taken : Flags) → taken_of taken rest ≡ take_flags flags (texts words) → read ≡ rest
+    → list_all is_word (texts words) ≡ true → list_all is_word (texts read) ≡ true
+words_left flags words read rest taken is same all =
+    ap (λ (ws : List (Bor Text)). list_all is_word (texts ws)) same ∙ ap (λ (t : Taken). list_all is_word t.rest) is ∙ rest_words flags (texts words) all
 
-  left : texts passed ≡ rest
-  left = ap texts pass ∙ taken.1 ∙ ap (λ flag. (take_flag flag (texts words)).rest) is_common
-
-  left_words : texts read ≡ (take_flag (row name).flag rest).rest
-  left_words = ap texts same ∙ own_taken.1 ∙ ap₂ (λ flag ws. (take_flag flag ws).rest) is_own left
-
-  pub words_left : list_all is_word (texts words) ≡ true → list_all is_word (texts read) ≡ true
-  words_left all = ap (list_all is_word) left_words ∙ rest_words (row name).flag rest (rest_words (lenient_flag (row name)) (texts words) all)
+-- the command of what is left
+pub command_left : (name : CommandName) (flags : List Flag) (words read rest : List (Bor Text)) (taken : Flags) → flags ≡ (row name).flags
+    → taken_of taken rest ≡ take_flags flags (texts words) → read ≡ rest → named_command name taken (parts_of None (texts read)) ≡ command_by name (texts words)
+command_left name flags words read rest taken own is same =
+    ap (λ (ws : List (Bor Text)). named_command name taken (parts_of None (texts ws))) same ∙ ap (flagged_command name) is
+    ∙ ap (λ (fs : List Flag). flagged_command name (take_flags fs (texts words))) own

@@ -14,7 +14,7 @@ use Rattle.command_spec.specs.declared.ServeWaits.{ServeWaits}
 use Rattle.command_spec.specs.declared.WatchOptions.{WatchOptions}
 use Rattle.command_spec.specs.declared.rows.CommandName.{CommandName}
 use Rattle.command_spec.specs.declared.rows.CommandName.TheVariants.{Page, Build, Data, Explain, Schema, Check, Lint, Serve, Replay, Trial, Help, Version}
-use Rattle.command_spec.specs.declared.rows.Flags.{Flags}
+use Rattle.command_spec.specs.declared.flags.Flags.{Flags}
 use Rattle.command_spec.specs.declared.Command.{Command}
 use Rattle.command_spec.specs.Rows.{row}
 use Rattle.command_spec.specs.Options.{Parts, Setting}
@@ -49,8 +49,8 @@ module _ (f g : Given) (equal : (o : ValueOption) → f o ≡ g o) where
 
   same_serve : (flags : Flags) (words : List Text) → command_of Serve flags f words ≡ command_of Serve flags g words
   same_serve flags words =
-      ap₂ (λ o w. serving flags words o w (log_file f) (first_query f)) (same_options flags.own) same_watch
-      ∙ ap₂ (serving flags words (serve_options flags.own g) (serve_watch g)) (equal (Texted Log)) (equal (Texted Over))
+      ap₂ (λ o w. serving flags words o w (log_file f) (first_query f)) (same_options flags.whole) same_watch
+      ∙ ap₂ (serving flags words (serve_options flags.whole g) (serve_watch g)) (equal (Texted Log)) (equal (Texted Over))
 
   same_replay : (flags : Flags) (words : List Text) → command_of Replay flags f words ≡ command_of Replay flags g words
   same_replay flags words = ap₂ (replaying flags words) same_limits (equal (Texted Over))

@@ -15,7 +15,7 @@ use Rattle.clap.proofs.FaultLemmas.{stopped_fault}
 use Rattle.command_spec.specs.declared.options.ValueOption.{ValueOption}
 use Rattle.command_spec.specs.declared.rows.CommandName.{CommandName}
 use Rattle.command_spec.specs.declared.rows.CommandName.TheVariants.{Page, Build, Data, Explain, Schema, Check, Lint, Serve, Replay, Trial, Help, Version}
-use Rattle.command_spec.specs.declared.rows.Flags.{Flags}
+use Rattle.command_spec.specs.declared.flags.Flags.{Flags}
 use Rattle.command_spec.specs.declared.Command.{Command}
 use Rattle.command_spec.specs.Options.{Parts, parts_of}
 use Rattle.command_words.specs.Parsed as parsed

@@ -14,7 +14,7 @@ use Rattle.clap.specs.declared.parser.matches.ArgMatches.{ArgMatches}
 use Rattle.std.specs.Borrow.{Bor}
 use Rattle.command_spec.specs.declared.options.ValueOption.{ValueOption}
 use Rattle.command_spec.specs.declared.rows.CommandName.{CommandName}
-use Rattle.command_spec.specs.declared.rows.Flags.{Flags}
+use Rattle.command_spec.specs.declared.flags.Flags.{Flags}
 use Rattle.command_spec.specs.declared.Command.{Command}
 use Rattle.command_spec.specs.Rows.{row, names}
 use Rattle.command_spec.specs.Values.{Given, option_name}
@@ -99,6 +99,6 @@ IsParsedFrom words (Some m) =
 abbrev pub AreTexts : List Text → List (Bor Text) → Type 0
 AreTexts words found = (texts found ≡ words) × (list_all is_word words ≡ true)
 
--- whether a flag was among words, and the others, as they were taken apart
-abbrev pub IsTaken : Bool → List (Bor Text) → Taken → Type 0
-IsTaken set rest taken = (set ≡ taken.set) × (texts rest ≡ taken.rest)
+-- the flags that were among words, and the others, as they were taken apart
+abbrev pub taken_of : Flags → List (Bor Text) → Taken
+taken_of flags rest = record { flags = flags; rest = texts rest }

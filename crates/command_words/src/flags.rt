@@ -1,10 +1,11 @@
 //! Flags: the options without a value.
 
-ghost use Rattle.std.specs.Prelude.{◌≡◌, ◌++◌, ◌+◌, ◌<◌, IfOk, IfSome, length, take, drop, option_copied};
+ghost use Rattle.std.specs.Prelude.{◌≡◌, ◌++◌, ◌+◌, ◌<◌, IfOk, IfSome, length, take, drop};
 ghost use Rattle.clap.specs.Walk.{texts};
 ghost use Rattle.command_spec.specs.Words as specs;
-ghost use Rattle.command_words.specs.Parsed.{IsTaken};
+ghost use Rattle.command_words.specs.Parsed.{taken_of};
 
+use command_spec::{Flag, Flags};
 use sd_value::NoMemory;
 use std::alloc::Global;
 
@@ -35,34 +36,43 @@ fn without<'a>(alloc: Global, words: &[&'a str], at: usize) -> Result<Vec<&'a st
     Ok(rest)
 }
 
-/// Whether a flag was among words, and the other words.
+/// The flags that were among words, and the other words.
 #[derive(Drop)]
 pub struct Taken<'a> {
-    pub set: bool,
+    pub flags: Flags,
     pub rest: Vec<&'a str>,
 }
 
-/// The words without the flag, if there is such a flag.
-pub fn take_flag<'a>(
+/// The flag is taken out too, once, if it stands among the words.
+fn take_flag<'a>(alloc: Global, taken: Taken<'a>, flag: Flag) -> Result<Taken<'a>, NoMemory>
+    ensures { IfOk result
+        (λ now. taken_of now.flags now.rest.items
+        ≡ specs.take_flag (taken_of taken.entry.flags taken.entry.rest.items) flag) }
+{
+    match flag_place(flag.word(), &taken.rest) {
+        Some(at) => Ok(Taken {
+            flags: taken.flags.with(flag),
+            rest: without(alloc, &taken.rest, at)?,
+        }),
+        None => Ok(taken),
+    }
+}
+
+/// The words without these flags, each of which is taken out once.
+pub fn take_flags<'a>(
     alloc: Global,
-    flag: Option<&str>,
+    flags: &[Flag],
     words: &[&'a str],
 ) -> Result<Taken<'a>, NoMemory>
-    ensures { IfOk result (λ taken. IsTaken taken.set taken.rest.items
-        (specs.take_flag (option_copied flag.entry) (texts words.now))) }
+    ensures { IfOk result (λ taken. taken_of taken.flags taken.rest.items
+        ≡ specs.take_flags flags.now (texts words.now)) }
 {
-    let place = match flag {
-        Some(flag) => flag_place(flag, words),
-        None => None,
+    let mut taken = Taken {
+        flags: Flags::none(),
+        rest: Vec::from_slice(alloc, words)?,
     };
-    match place {
-        Some(at) => Ok(Taken {
-            set: true,
-            rest: without(alloc, words, at)?,
-        }),
-        None => Ok(Taken {
-            set: false,
-            rest: Vec::from_slice(alloc, words)?,
-        }),
+    for flag in flags {
+        taken = take_flag(alloc, taken, *flag)?;
     }
+    Ok(taken)
 }

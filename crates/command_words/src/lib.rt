@@ -24,7 +24,7 @@ use command_spec::{
     ReportCommand, RunLimits, SchemaCommand, ServeCommand, ServeOptions, ServeWaits, TextCommand,
     TextOption, TrialCommand, ValueOption, WatchOptions,
 };
-use flags::take_flag;
+use flags::take_flags;
 use numbers::{number, number_of, text_in};
 use program::{WORDS, program};
 use sd_value::{NoMemory, Str};
@@ -81,7 +81,8 @@ fn build_command(
         folder: Str::new(alloc, folder.as_bytes())?,
         sources: DataFiles::of(alloc, flags.lenient, sources)?,
         over,
-        durable: flags.own,
+        durable: flags.durable,
+        clean: flags.clean,
     })))
 }
 
@@ -147,7 +148,7 @@ fn check_all_command(
         (λ given. given ≡ specs.check_all_command flags query.now constraints.now) }
     ensures ranges { IfOk result (λ given. IfSome given IsInRange) }
 {
-    if flags.own || flags.lenient {
+    if flags.here || flags.lenient {
         return Ok(None);
     }
     Ok(Some(Command::Report(ReportCommand::CheckAll(CheckAllCommand {
@@ -167,7 +168,7 @@ fn check_here_command(
         ≡ specs.check_here_command flags query.now constraints.now (texts sources.now)) }
     ensures ranges { IfOk result (λ given. IfSome given IsInRange) }
 {
-    if !flags.own {
+    if !flags.here {
         return Ok(None);
     }
     Ok(Some(Command::Report(ReportCommand::Check(HereCommand {
@@ -469,7 +470,7 @@ fn serve_with_words(
         (parsed.found (rows_of (found_of matches.now))) (texts words.now)) }
     ensures ranges { IfOk result (λ given. IfSome given IsInRange) }
 {
-    let Some(options) = serve_options(alloc, flags.own, matches)? else {
+    let Some(options) = serve_options(alloc, flags.whole, matches)? else {
         return Ok(None);
     };
     let Some(watch) = serve_watch(alloc, matches)? else {
@@ -515,7 +516,7 @@ fn command_of(
         CommandName::Build => build_command(alloc, flags, first_query(alloc, matches)?, words),
         CommandName::Data => data_command(alloc, lenient, first_query(alloc, matches)?, words),
         CommandName::Explain => explain_command(alloc, lenient, words),
-        CommandName::Schema => schema_command(alloc, flags.own, words),
+        CommandName::Schema => schema_command(alloc, flags.dot, words),
         CommandName::Check => check_command(alloc, flags, words),
         CommandName::Lint => lint_command(alloc, lenient, words),
         CommandName::Serve => serve_with_words(alloc, flags, matches, words),
@@ -602,21 +603,14 @@ fn named_command(
     Ok(given)
 }
 
-/// The command of this name by the words after it: `--lenient` is taken out first, then the command's own flag, and `clap`
-/// reads the others.
+/// The command of this name by the words after it: its flags are taken out first, and `clap` reads the others.
 fn command_by(alloc: Global, name: CommandName, words: &[&str]) -> Result<Option<Command>, NoMemory>
     requires { list_all specs.is_word (texts words.now) ≡ true }
     ensures exact { IfOk result (λ given. given ≡ specs.command_by name (texts words.now)) }
     ensures ranges { IfOk result (λ given. IfSome given IsInRange) }
 {
-    let row = name.row();
-    let lenient = take_flag(alloc, row.lenient_flag(), words)?;
-    let own = take_flag(alloc, row.flag, &lenient.rest)?;
-    let flags = Flags {
-        own: own.set,
-        lenient: lenient.set,
-    };
-    named_command(alloc, name, flags, &own.rest)
+    let taken = take_flags(alloc, name.row().flags, words)?;
+    named_command(alloc, name, taken.flags, &taken.rest)
 }
 
 /// The command that these words give, or none.
@@ -675,9 +669,9 @@ fn texts_of<'a>(alloc: Global, words: &'a [Str]) -> Result<Option<Vec<&'a str>>,
 /// first `--` is dropped, and the words behind it are no options. Each option is one of the command's, occurs at most
 /// once, and has a number of 1 to 10 digits within its range, but for `--over`, `--watch` and `--log`, whose values are paths,
 /// and `--host`, whose value is names between commas, none of them empty;
-/// `--every` doesn't stand without `--watch`. `--lenient` of every command that reads data, `--durable` of `build`, `--dot`
-/// of `schema`, `--whole` of `serve`, and `--here` of `check`, which `check` wants exactly where it has data, have no
-/// value. The other words are as many as the command wants. Every word is a text, and none is empty.
+/// `--every` doesn't stand without `--watch`. `--lenient` of every command that reads data, `--durable` and `--clean` of
+/// `build`, `--dot` of `schema`, `--whole` of `serve`, and `--here` of `check`, which `check` wants exactly where it has data,
+/// have no value. The other words are as many as the command wants. Every word is a text, and none is empty.
 pub fn read_command(alloc: Global, words: &[Str]) -> Result<Option<Command>, NoMemory>
     ensures exact { IfOk result (λ given. given ≡ specs.command words.now) }
     ensures ranges { IfOk result (λ given. IfSome given IsInRange) }

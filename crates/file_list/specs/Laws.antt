@@ -37,7 +37,7 @@ module _ (folder : List ℕ) where
   pub record BuildsWhole (names : List (List ℕ)) (old written new : FileMap) (all : Bool)
       : Type 0 where
     pub union : List (List ℕ)
-    pub is_union : IsUnion old names union
+    pub members : ListsExactly bytes_cmp (λ n. Contains (names_at old) n ⊎ Contains names n) union
     pub writes : (path : List ℕ) → (IsNamed names path → ⊥)
         → written path ≡ put_file old (list_path folder) (list_text union) path
     pub cleaned : FileMap

@@ -2,17 +2,7 @@
 use Rattle.std.specs.Prelude.{◌≡◌, ◌==◌, ◌&&◌, ◌||◌, ◌++◌, ◌-◌, ◌^◌, ◌∷◌, ℕ, Bool, List, [], Contains, Option, None, Some, codes, length, take, not}
 use Rattle.std.specs.List.{filter, flat_map, list_any, slice_split}
 use Rattle.std.specs.Str.{bytes_eq}
-
--- the name of the list itself
-abbrev pub list_name : List ℕ
-list_name = codes ".strudel-files"
-
--- the path of a file under the folder
-abbrev pub under : (folder name : List ℕ) → List ℕ
-under folder name = folder ++ codes "/" ++ name
-
-abbrev pub list_path : (folder : List ℕ) → List ℕ
-list_path folder = under folder list_name
+pub use Rattle.files_spec.specs.Paths.{under, list_name, list_path}
 
 abbrev pub is_slash : ℕ → Bool
 is_slash byte = byte == 47

@@ -7,6 +7,6 @@ mod names;
 mod removing;
 
 pub use laws::{builds_are_mended, lists_are_read_again, whole_builds_leave};
-pub use lists::{put_list, read_list};
+pub use lists::{list_path, put_list, read_list};
 pub use names::{names_of, text_of, union_of};
 pub use removing::remove_left;

@@ -22,7 +22,12 @@ pub(crate) fn file_path(alloc: Global, folder: &Str, name: &[u8]) -> Result<Str,
     Ok(Str::of(alloc, path)?)
 }
 
-fn list_path(alloc: Global, folder: &Str) -> Result<Str, NoMemory>
+/// The path of the list in the folder.
+///
+/// # Errors
+///
+/// Out of memory.
+pub fn list_path(alloc: Global, folder: &Str) -> Result<Str, NoMemory>
     ensures { IfOk result (λ path. path ≡ list_path folder.now) }
 {
     file_path(alloc, folder, b".strudel-files")

@@ -1,11 +1,12 @@
 -- Each run is some reads, and then what reads nothing: with events behind the line of `serve`, or with none.
 use Rattle.std.proofs.Common.{◌≡◌, ◌⊎◌, ◌≤◌, ℕ, List, Bool, [], ◌∷◌, ◌++◌, map, length, inl, inr, refl, sym, ap, subst, ◌∙◌, append_assoc, arith}
-use Rattle.std.proofs.lemmas.List.{append-nil}
-use Rattle.std.specs.Prelude.{Option, None, Some, Result, ⊤}
+use Rattle.std.proofs.lemmas.List.{append-nil, map-append}
+use Rattle.std.proofs.lemmas.List.Elements.{All-head, All-tail}
+use Rattle.std.specs.Prelude.{Option, None, Some, Result, All, if◌then◌else◌, ⊤}
 use Rattle.std.specs.Prelude as prelude
 use Rattle.std.specs.List.{AllZip}
 use Rattle.edge_io.specs.Files.{FileMap}
-use Rattle.happenings.specs.Happening.{Happening, WriteFailed, Put, PutFailed, Watched, WatchFailed, Listened, ListenFailed, Given, NextFailed, Finished}
+use Rattle.happenings.specs.Happening.{Happening, Read, ReadFailed, WriteFailed, RemoveFailed, Put, PutFailed, Watched, WatchFailed, Listened, ListenFailed, Given, NextFailed, Finished}
 use Rattle.happenings.specs.declared.event.WireEvent.{WireEvent}
 use Rattle.happenings.specs.declared.event.WireEvent.TheVariants.{Change}
 use Rattle.happenings.specs.declared.stream.Stream.{Stream}
@@ -18,13 +19,17 @@ use Rattle.serving_spec.specs.declared.HubEnd.TheVariants as end
 use Rattle.hub.specs.Course.{Scene, Rules, PassesAll, IsCourse, Ending}
 use Rattle.files_spec.specs.declared.stop.Stop.{Stop}
 use Rattle.files_spec.specs.declared.stop.Stop.TheVariants as stop
-use Rattle.files_spec.specs.Writes.{IsPut, IsPageWritten, WritesSome, IndexWrites, PagesThenIndex, PagesWrite, SiteWrites}
-use Rattle.files_spec.specs.Paths.{page_path, index_path}
+use Rattle.files_spec.specs.Writes.{Adds, IsPut, IsPageWritten, WritesSome, IndexWrites, PagesThenIndex, PagesWrite, SiteWrites}
+use Rattle.files_spec.specs.Paths.{page_path, index_path, list_path}
+use Rattle.file_list.specs.Lists.{list_text, IsLeft}
+use Rattle.file_list.specs.Calls.{ListPutAdds, IsRemoval, RemovalsStop, RemovalsAdd}
+use Rattle.site_files.specs.Listed.{DoesInTurn, RenewDoes, DoesSiteThenRenew, FilesDo}
 use Rattle.run_report.specs.Told.{IsOnePut, IsTold, ArePut, file_line}
 use Rattle.run_report.specs.declared.reports.Report.{Report}
 use Rattle.run_report.specs.declared.status.Status.{Status}
 use Rattle.run_report.specs.declared.status.Status.TheVariants.{Ok, NotAllYes, WriteFault, FileFault, WireFault, NoMemory, TurnsSpent}
-use Rattle.command_spec.specs.Inputs.{given_inputs}
+use Rattle.command_spec.specs.Inputs.{data_paths, input_paths, given_inputs}
+use Rattle.command_spec.specs.declared.BuildCommand.{BuildCommand}
 use Rattle.command_spec.specs.declared.Command.{Command}
 use Rattle.command_spec.specs.declared.Command.TheVariants as command
 use Rattle.command_spec.specs.declared.RunLimits.{RunLimits}
@@ -32,7 +37,7 @@ use Rattle.command_spec.specs.declared.ServeCommand.{ServeCommand}
 use Rattle.command_spec.specs.declared.WatchOptions.{WatchOptions}
 use Rattle.site_inputs.specs.declared.fault.Fault.{Fault}
 use Rattle.site_inputs.specs.declared.fault.Fault.TheVariants as fault
-use Rattle.site_inputs.specs.Reads.{path_of, read_of, ReadsAll, ReadsSome, ReadsTo, Reads}
+use Rattle.site_inputs.specs.Reads.{Got, path_of, read_of, ReadsAll, ReadsSome, ReadsTo, Reads}
 use Rattle.site_inputs.specs.Sites.{Inputs}
 use Rattle.site_serving.specs.Served.{ServesSiteInSteps}
 use Rattle.serve_run.specs.Puts.{EndHappens}
@@ -310,19 +315,143 @@ answer_split report_of out Answers given contents course s h = record {
   later = inl (answer_quiet report_of out h.answer h.puts s h.puts_answer);
 }
 
-build_quiet : (c : _) (out : Stream) (contents : Option FileMap) (inputs : Result Inputs Fault) (part : List Happening) (s : Status) → build.DoesWith c out contents inputs part s → Each IsQuiet part
-build_quiet c out contents (prelude.Ok given) part s h =
+-- ---- a build
+
+-- two parts, one after the other
+turns_quiet : {A : Type 0} (First : List Happening → Result A Stop → Type 0) (Then : List Happening → Result ⊤ Stop → Type 0) (part : List Happening) (ended : Result ⊤ Stop)
+    → ((p : List Happening) (r : Result A Stop) → First p r → Each IsQuiet p) → ((p : List Happening) → Then p ended → Each IsQuiet p) → DoesInTurn First Then part ended → Each IsQuiet part
+turns_quiet First Then part ended first then (inl (a, front, back, part_is, f, t)) = each_is IsQuiet part (front ++ back) part_is (both IsQuiet front back (first front (prelude.Ok a) f) (then back t))
+turns_quiet First Then part ended first then (inr (reason, is, f)) = first part (prelude.Err reason) f
+
+list_quiet : (path text : List ℕ) (part : List Happening) (ended : Result ⊤ Stop) → ListPutAdds path text [] part ended → Each IsQuiet part
+list_quiet path text part (prelude.Ok u) h = each_is IsQuiet part (h.0 ∷ []) h.2 (one_put_is_quiet path text h.0 h.1, tt)
+list_quiet path text part (prelude.Err (stop.Unwritten missed)) h = each_is IsQuiet part (WriteFailed path ∷ []) h.1 (tt, tt)
+list_quiet path text part (prelude.Err (stop.Faulty term kind)) h = absurd h
+list_quiet path text part (prelude.Err stop.NoMemory) h = none_quiet part h
+
+module _ (IsOver : List ℕ → Type 0) where
+  all_removed : (part : List Happening) → All (IsRemoval IsOver) part → Each IsQuiet part
+  all_removed [] h = tt
+  all_removed (x ∷ xs) h = (let r = All-head (IsRemoval IsOver) x xs h in subst IsQuiet (sym r.2) tt, all_removed xs (All-tail (IsRemoval IsOver) x xs h))
+
+  added_removed : (part : List Happening) → Adds [] part (All (IsRemoval IsOver)) → Each IsQuiet part
+  added_removed part h = each_is IsQuiet part h.part h.added (all_removed h.part h.its)
+
+  stopped_removed : (part : List Happening) (path : List ℕ) → Adds [] part (RemovalsStop IsOver path) → Each IsQuiet part
+  stopped_removed part path h =
+      each_is IsQuiet part (h.its.done ++ RemoveFailed path ∷ []) (h.added ∙ h.its.part_is)
+      (both IsQuiet h.its.done (RemoveFailed path ∷ []) (all_removed h.its.done h.its.removals) (tt, tt))
+
+  removals_quiet : (part : List Happening) (ended : Result Bool Stop) → RemovalsAdd IsOver [] part ended → Each IsQuiet part
+  removals_quiet part (prelude.Ok all) h = added_removed part h
+  removals_quiet part (prelude.Err (stop.Unwritten path)) h = stopped_removed part path h
+  removals_quiet part (prelude.Err (stop.Faulty term kind)) h = absurd h
+  removals_quiet part (prelude.Err stop.NoMemory) h = added_removed part h
+
+module _ (site : Site) (templates : TemplateFile) (folder : List ℕ) (terms : List Term) (root : Option (List ℕ)) where
+  renewal_quiet : (was names : List (List ℕ)) (part : List Happening) (ended : Result ⊤ Stop) → RenewDoes folder was names part ended → Each IsQuiet part
+  renewal_quiet was names part ended h =
+      turns_quiet _ _ part ended (removals_quiet (IsLeft folder was names)) (λ p. list_quiet (list_path folder) (list_text names) p ended) h
+
+  renewed_quiet : (was names : List (List ℕ)) (contents : Option FileMap) (part : List Happening) (ended : Result ⊤ Stop) → DoesSiteThenRenew site templates folder terms root was names contents part ended → Each IsQuiet part
+  renewed_quiet was names contents part ended h =
+      turns_quiet _ _ part ended (λ p r w. writes_quiet site templates folder terms root p r w.0) (λ p. renewal_quiet was names p ended) h
+
+  files_quiet : (list : Option (List (List ℕ))) (contents : Option FileMap) (part : List Happening) (ended : Result ⊤ Stop) → FilesDo site templates folder terms root list contents part ended → Each IsQuiet part
+  files_quiet None contents part ended h = writes_quiet site templates folder terms root part ended h.0
+  files_quiet (Some was) contents part ended (inl h) =
+      turns_quiet _ _ part ended (list_quiet (list_path folder) (list_text h.union)) (λ p. renewed_quiet was h.names h.after p ended) h.does
+  files_quiet (Some was) contents part ended (inr h) = none_quiet part h.1
+
+build_quiet : (c : _) (out : Stream) (contents : Option FileMap) (given : Inputs) (got : Result (Option (List (List ℕ))) Fault) (part : List Happening) (s : Status) → build.DoesWith c out contents given got part s → Each IsQuiet part
+build_quiet c out contents given (prelude.Ok list) part s h =
     each_is IsQuiet part (h.writes ++ h.last) h.part_is (both IsQuiet h.writes h.last (built h.end h.writes h.built) (put h.end h.last h.put))
   where
-    built : (end : Result (List ℕ) Stop) (part : List Happening) → build.WritesBuilt given c.folder contents end part → Each IsQuiet part
-    built end part (inl w) = writes_quiet _ given.templates c.folder w.pages _ part _ w.writes
+    built : (end : Result (List ℕ) Stop) (part : List Happening) → build.WritesBuilt given list c.folder contents end part → Each IsQuiet part
+    built end part (inl w) = files_quiet _ given.templates c.folder w.pages _ list contents part _ w.writes
     built end part (inr w) = none_quiet part w.1
 
     put : (end : Result (List ℕ) Stop) (part : List Happening) → build.LinePut out end part s → Each IsQuiet part
     put (prelude.Ok line) part (inl p) = put_quiet out line part p.1
     put (prelude.Ok line) part (inr p) = cut_quiet out line p.1 part p.2
     put (prelude.Err reason) part p = none_quiet part p.1
-build_quiet c out contents (prelude.Err reason) part s h = none_quiet part h.1
+build_quiet c out contents given (prelude.Err reason) part s h = none_quiet part h.1
+
+-- ---- the list is read behind the inputs
+
+-- some of these are some of more
+some_of_more : (ps more missed : List (List ℕ)) (c : List Happening) → ReadsSome ps missed c → ReadsSome (ps ++ more) missed c
+some_of_more ps more missed c r = record {
+  gots = r.gots;
+  left = r.left ++ more;
+  paths_are = ap (λ ls. map path_of r.gots ++ ls) (sym (append_assoc missed r.left more)) ∙ sym (append_assoc (map path_of r.gots) (missed ++ r.left) more) ∙ ap (λ ls. ls ++ more) r.paths_are;
+  part_is = r.part_is;
+}
+
+first_of_more : (ps more : List (List ℕ)) (c : List Happening) → First ps c → First (ps ++ more) c
+first_of_more ps more c f = record { missed = f.missed; some = some_of_more ps more f.missed c f.some; at_most_one = f.at_most_one }
+
+one_more : (ps : List (List ℕ)) (c : List Happening) (path bytes : List ℕ) → ReadsAll ps c → ReadsSome (ps ++ path ∷ []) [] (c ++ Read path bytes ∷ [])
+one_more ps c path bytes a = record {
+  gots = a.gots ++ got ∷ [];
+  left = [];
+  paths_are = append-nil (map path_of (a.gots ++ got ∷ [])) ∙ map-append path_of a.gots (got ∷ []) ∙ ap (λ ls. ls ++ path ∷ []) a.paths_are;
+  part_is = ap (λ r. r ++ Read path bytes ∷ []) a.part_is ∙ sym (map-append read_of a.gots (got ∷ [])) ∙ sym (append-nil (map read_of (a.gots ++ got ∷ [])));
+}
+  where
+    got : Got
+    got = record { path = path; bytes = bytes }
+
+one_failed : (ps : List (List ℕ)) (c : List Happening) (path : List ℕ) → ReadsAll ps c → ReadsSome (ps ++ path ∷ []) (path ∷ []) (c ++ ReadFailed path ∷ [])
+one_failed ps c path a = record {
+  gots = a.gots;
+  left = [];
+  paths_are = ap (λ ls. ls ++ path ∷ []) a.paths_are;
+  part_is = ap (λ r. r ++ ReadFailed path ∷ []) a.part_is;
+}
+
+module _ (ps : List (List ℕ)) (c : List Happening) (all : ReadsAll ps c) where
+  unread_list : (more : List (List ℕ)) (listing : List Happening) → listing ≡ [] → First (ps ++ more) (c ++ listing)
+  unread_list more listing is = subst (First (ps ++ more)) (sym (ap (λ l. c ++ l) is ∙ append-nil c)) (first_of_more ps more c (none_missed ps c (all_some ps c all)))
+
+  read_list : (path bytes : List ℕ) (listing : List Happening) → listing ≡ Read path bytes ∷ [] → First (ps ++ path ∷ []) (c ++ listing)
+  read_list path bytes listing is = subst (λ l. First (ps ++ path ∷ []) (c ++ l)) (sym is) (none_missed (ps ++ path ∷ []) (c ++ Read path bytes ∷ []) (one_more ps c path bytes all))
+
+  failed_list : (path : List ℕ) (listing : List Happening) → listing ≡ ReadFailed path ∷ [] → First (ps ++ path ∷ []) (c ++ listing)
+  failed_list path listing is = subst (λ l. First (ps ++ path ∷ []) (c ++ l)) (sym is) (one_missed (ps ++ path ∷ []) (c ++ ReadFailed path ∷ []) path (one_failed ps c path all))
+
+  list_first : (clean : Bool) (folder : List ℕ) (contents : Option FileMap) (listing : List Happening) (got : Result (Option (List (List ℕ))) Fault) → build.DoesList clean folder contents listing got
+      → First (ps ++ (if clean then list_path folder ∷ [] else [])) (c ++ listing)
+  list_first prelude.false folder contents listing got h = unread_list [] listing h.1
+  list_first prelude.true folder contents listing (prelude.Ok list) (names, is, inl h) = unread_list (list_path folder ∷ []) listing h.0
+  list_first prelude.true folder contents listing (prelude.Ok list) (names, is, inr h) = read_list (list_path folder) h.0 listing h.1
+  list_first prelude.true folder contents listing (prelude.Err (fault.Unread path)) h = failed_list (list_path folder) listing h.1
+  list_first prelude.true folder contents listing (prelude.Err fault.NoMemory) (inl h) = unread_list (list_path folder ∷ []) listing h
+  list_first prelude.true folder contents listing (prelude.Err fault.NoMemory) (inr (inl h)) = failed_list (list_path folder) listing h
+  list_first prelude.true folder contents listing (prelude.Err fault.NoMemory) (inr (inr h)) = read_list (list_path folder) h.0 listing h.1
+  list_first prelude.true folder contents listing (prelude.Err (fault.Refused refusal)) h = absurd h
+  list_first prelude.true folder contents listing (prelude.Err (fault.Faulty term kind)) h = absurd h
+  list_first prelude.true folder contents listing (prelude.Err fault.NotFound) h = absurd h
+
+module _ (c : BuildCommand) (out : Stream) (contents : Option FileMap) (course : List Happening) (s : Status) where
+  abbrev Paths : List (List ℕ)
+  Paths = input_paths (data_paths c.sources c.over) c.query c.templates
+
+  build_split : (inputs : Result Inputs Fault) (Ends : FileMap → Type 0) (reads others : List Happening) → course ≡ reads ++ others → Reads Paths [] reads contents inputs Ends → build.DoesAfter c out contents inputs others s → Split out (Some (command.Build c)) course
+  build_split (prelude.Ok given) Ends reads others is read h = record {
+    reads = reads ++ h.listing;
+    others = h.others;
+    trace_is = is ∙ ap (λ r. reads ++ r) h.part_is ∙ sym (append_assoc reads h.listing h.others);
+    first = subst (λ r. First (given_inputs (Some (command.Build c))) (r ++ h.listing)) (sym read.added) (list_first Paths read.part read.reads c.clean c.folder contents h.listing h.got h.list);
+    later = inl (build_quiet c out contents given h.got h.others s h.does);
+  }
+  build_split (prelude.Err reason) Ends reads others is read h = record {
+    reads = reads;
+    others = others;
+    trace_is = is;
+    first = first_of_more Paths (if c.clean then list_path c.folder ∷ [] else []) reads (first_of Paths reads contents (prelude.Err reason) Ends read);
+    later = inl (none_quiet others h.1);
+  }
 
 replay_quiet : (c : _) (out : Stream) (contents : Option FileMap) (inputs : Result _ Fault) (part : List Happening) (s : Status) → replay.DoesWith c out contents inputs part s → Each IsQuiet part
 replay_quiet c out contents (prelude.Ok given) part s (inl h) = end_quiet h.ended out h.text part s h.puts
@@ -338,13 +467,7 @@ module _ (out : Stream) (contents : Option FileMap) (before after : WireReport) 
   command_split : (given : Command) (course : List Happening) (s : Status) → CommandCourse out contents before after given course s → Split out (Some given) course
   command_split (command.Text c) course s h = answer_split _ out _ (Some (command.Text c)) contents course s h
   command_split (command.Report c) course s h = answer_split _ out _ (Some (command.Report c)) contents course s h
-  command_split (command.Build c) course s h = record {
-    reads = h.reads;
-    others = h.others;
-    trace_is = h.part_is;
-    first = first_of (given_inputs (Some (command.Build c))) h.reads contents h.inputs _ h.read;
-    later = inl (build_quiet c out contents h.inputs h.others s h.does);
-  }
+  command_split (command.Build c) course s h = build_split c out contents course s h.inputs _ h.reads h.others h.part_is h.read h.does
   command_split (command.Serve c) course s h = record {
     reads = h.reads;
     others = h.others;

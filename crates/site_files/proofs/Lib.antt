@@ -5,3 +5,6 @@ pub mod Puts
 pub mod Sparing
 pub mod Standing
 pub mod Writing
+pub mod Naming
+pub mod Listable
+pub mod Turns

@@ -17,7 +17,7 @@ use sd_value::{Args, NoMemory, Str, Term};
 use site_view::Pages;
 use std::alloc::Global;
 
-fn root_page(alloc: Global, root: &Str) -> Result<Term, NoMemory>
+pub(crate) fn root_page(alloc: Global, root: &Str) -> Result<Term, NoMemory>
     ensures { IfOk result (λ t. t ≡ root_term root.now) }
 {
     Ok(Term {
@@ -26,7 +26,7 @@ fn root_page(alloc: Global, root: &Str) -> Result<Term, NoMemory>
     })
 }
 
-fn is_among(terms: &[Term], page: &Term) -> bool
+pub(crate) fn is_among(terms: &[Term], page: &Term) -> bool
     ensures { IsTrue result ↔ Contains terms.now page.now }
 {
     for term in terms {

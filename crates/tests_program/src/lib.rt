@@ -5,6 +5,8 @@
 #[cfg(test)]
 mod checks;
 #[cfg(test)]
+mod cleaned;
+#[cfg(test)]
 mod composed;
 #[cfg(test)]
 mod connections;
@@ -27,6 +29,7 @@ mod lints;
 #[cfg(test)]
 mod logs;
 #[cfg(test)]
+mod orders;
 mod pages;
 #[cfg(test)]
 mod refusing;

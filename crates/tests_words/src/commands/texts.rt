@@ -168,10 +168,11 @@ fn page_text(alloc: Global, c: &PageCommand) -> Result<Vec<u8>, NoMemory> {
 
 fn build_text(alloc: Global, c: &BuildCommand) -> Result<Vec<u8>, NoMemory> {
     let paths = [&c.query, &c.templates, &c.folder];
-    let name: &[u8] = if c.durable {
-        b"build durably"
-    } else {
-        b"build"
+    let name: &[u8] = match (c.durable, c.clean) {
+        (true, true) => b"build durably and cleanly",
+        (true, false) => b"build durably",
+        (false, true) => b"build cleanly",
+        (false, false) => b"build",
     };
     let text = named(alloc, name, &paths, c.sources.paths.items(), &[])?;
     data_text(text, &c.sources, &c.over)

@@ -9,10 +9,10 @@ use std::alloc::Global;
 use std::str;
 use std::test::Fail;
 
-// The option of a command that has no value: none, one that may be given, or one that stands in the words.
+// The options of a command that have no value: none, ones that may be given, or one that stands in the words.
 enum Flag {
     None,
-    May(&'static str),
+    May(&'static [&'static str]),
     Has(&'static str),
 }
 
@@ -43,7 +43,7 @@ const ROWS: &[UsageRow] = &[
         words: &["build", "q", "t", "f", "d"],
         fewest: 5,
         operands: "QUERY TEMPLATES DIR DATA..",
-        flag: Flag::May("--durable"),
+        flag: Flag::May(&["--durable", "--clean"]),
         options: &[ValueOption::Text(TextOption::Over)],
         reads_data: true,
     },
@@ -70,7 +70,7 @@ const ROWS: &[UsageRow] = &[
         words: &["schema", "q"],
         fewest: 2,
         operands: "QUERY",
-        flag: Flag::May("--dot"),
+        flag: Flag::May(&["--dot"]),
         options: &[],
         reads_data: false,
     },
@@ -106,7 +106,7 @@ const ROWS: &[UsageRow] = &[
         words: &["serve", "q", "t", "d"],
         fewest: 4,
         operands: "QUERY TEMPLATES DATA..",
-        flag: Flag::May("--whole"),
+        flag: Flag::May(&["--whole"]),
         options: &[
             ValueOption::Number(NumberOption::Port),
             ValueOption::Text(TextOption::Host),
@@ -187,7 +187,14 @@ const OPTIONS: &[ValueOption] = &[
 ];
 
 // All options without a value.
-const FLAGS: &[&str] = &["--dot", "--here", "--whole", LENIENT];
+const FLAGS: &[&str] = &[
+    "--durable",
+    "--clean",
+    "--dot",
+    "--here",
+    "--whole",
+    LENIENT,
+];
 
 const LENIENT: &str = "--lenient";
 
@@ -197,7 +204,7 @@ fn may_have(row: &UsageRow, flag: &str) -> bool {
         return row.reads_data;
     }
     match row.flag {
-        Flag::May(own) => own == flag,
+        Flag::May(own) => own.iter().any(|one| *one == flag),
         _ => false,
     }
 }
@@ -366,9 +373,17 @@ fn push_options(alloc: Global, out: &mut Vec<u8>, options: &[ValueOption]) -> Re
     Ok(())
 }
 
+fn push_lines(out: &mut Vec<u8>, lines: &[&'static str]) -> Result<(), NoMemory> {
+    for line in lines {
+        push_parts(out, &[line, "\n"])?;
+    }
+    Ok(())
+}
+
 fn push_flag(out: &mut Vec<u8>, flag: &Flag) -> Result<(), NoMemory> {
     match flag {
-        Flag::May(flag) | Flag::Has(flag) => push_parts(out, &[flag, "\n"]),
+        Flag::May(flags) => push_lines(out, flags),
+        Flag::Has(flag) => push_lines(out, &[flag]),
         Flag::None => Ok(()),
     }
 }
@@ -404,7 +419,8 @@ fn push_words(
 fn push_form(out: &mut Vec<u8>, row: &UsageRow) -> Result<(), NoMemory> {
     match row.flag {
         _ if !row.options.is_empty() => push_words(out, row, " ", "[OPTION..]", ""),
-        Flag::May(flag) => push_words(out, row, " [", flag, "]"),
+        Flag::May([flag]) => push_words(out, row, " [", flag, "]"),
+        Flag::May(_) => push_words(out, row, " ", "[OPTION..]", ""),
         Flag::Has(flag) => push_words(out, row, " ", flag, " [--lenient]"),
         Flag::None if row.reads_data => push_words(out, row, " [", LENIENT, "]"),
         Flag::None => push_words(out, row, "", "", ""),
