@@ -306,7 +306,7 @@ def byline(fields):
 
 
 def cleared(text):
-    """A text with blanks for comments and for each `@` that begins no item."""
+    """A text with blanks for comments and for each `@` that begins no item. An `@comment` is its word alone."""
     text, at = bytearray(text), 0
     begins = re.compile(rb"@[ \t\r\n]*([A-Za-z]+)[ \t\r\n]*([{(])([ \t\r\n]*)")
     while found := re.compile(rb"[@%]").search(text, at):
@@ -317,7 +317,8 @@ def cleared(text):
             continue
         item = begins.match(text, at)
         if item is None or item[1].lower() == b"comment":
-            text[at : at + 1] = b" "
+            text[at : at + 1] = b"@" if item else b" "
+            at += 1
             continue
         close, at, keyed = (b"}" if item[2] == b"{" else b")"), item.start(3), item[1].lower() not in (b"string", b"preamble")
         ends, depth = None, 0
@@ -363,6 +364,8 @@ class Lenient(Reader):
         self.first.setdefault(key, fields)
 
     def read(self, stem):
+        if self.text and b"@" not in self.text:
+            self.expected()
         super().read(stem)
         for stem, kind, key, fields, own in self.entries:
             self.state(key, {stem, kind}, self.edges(self.whole(fields), own))

@@ -8,7 +8,8 @@ use Rattle.grammar.specs.Fault.{FirstPast}
 use Rattle.grammar.specs.Reading.{starts, iterate}
 use Rattle.token_reader.specs.Gives.{place, IsReal}
 use Rattle.token_reader.specs.declared.refusal.TextRefusal.TheVariants as text
-use Rattle.struql_ast.specs.Written.{Query}
+use Rattle.struql_orders.specs.Ordered.{OrderedQuery}
+use Rattle.struql_orders.specs.Reading.{read_orders}
 use Rattle.struql_text.specs.declared.keyword.Keyword.TheVariants as words
 use Rattle.struql_text.specs.Terminals.{is_other_version}
 use Rattle.struql_text.specs.Reading.{read_keyword, read_name}
@@ -36,15 +37,16 @@ reads_all =
     then_closes read_head _
     (λ n. then_closes (read_keyword words.Input) _
     (λ _. then_closes (read_name n) _
-    (λ input. then_closes (iterate begins_item (read_item_step n) no_groups) _
-    (λ groups. then_closes (read_keyword words.Output) _ (λ _. then_closes (read_name n) _ (λ output. finish_closes _))))))
+    (λ input. then_closes (read_orders n) _
+    (λ orders. then_closes (iterate begins_item (read_item_step n) no_groups) _
+    (λ groups. then_closes (read_keyword words.Output) _ (λ _. then_closes (read_name n) _ (λ output. finish_closes _)))))))
 
 module _ (limit : ℕ) (bytes : List ℕ) where
   abbrev HasAnswer : Type 0
-  HasAnswer = (r : Result Query QueryRefusal) × AnswersWritten limit bytes r
+  HasAnswer = (r : Result OrderedQuery QueryRefusal) × AnswersWritten limit bytes r
 
   -- the fault of a query that is spelled
-  of_fault : (q : Query) → Spells limit bytes q → (check : Check) (at : ℕ) → IsLeastFault (Faulty q) check at → HasAnswer
+  of_fault : (q : OrderedQuery) → Spells limit bytes q → (check : Check) (at : ℕ) → IsLeastFault (Faulty q.query) check at → HasAnswer
   of_fault q is TooManyPositions at h = (Err (NotChecked (told TooManyPositions at)), ((q, is, (TooManyPositions, at, h, refl)), tt))
   of_fault q is Unbound at h = (Err (NotChecked (told Unbound at)), ((q, is, (Unbound, at, h, refl)), tt))
   of_fault q is NeverCreated at h = (Err (NotChecked (told NeverCreated at)), ((q, is, (NeverCreated, at, h, refl)), tt))
@@ -55,7 +57,7 @@ module _ (limit : ℕ) (bytes : List ℕ) where
   of_fault q is Reserved at h = (Err (NotChecked (told Reserved at)), ((q, is, (Reserved, at, h, refl)), tt))
   of_fault q is TooManyVariables at h = (Err (NotChecked (told TooManyVariables at)), ((q, is, (TooManyVariables, at, h, refl)), tt))
 
-  of_query : (q : Query) → Spells limit bytes q → (o : Option Fault) → IsFirst (Faulty q) o → HasAnswer
+  of_query : (q : OrderedQuery) → Spells limit bytes q → (o : Option Fault) → IsFirst (Faulty q.query) o → HasAnswer
   of_query q is None h = (Ok q, (is, h))
   of_query q is (Some f) h = of_fault q is f.check f.at h
 
@@ -66,7 +68,7 @@ module _ (limit : ℕ) (bytes : List ℕ) where
   of_past tokens rest l f false is = (Err (NotSpelled (parse.TooDeep (place (length bytes) rest))), ((tokens, l, rest, f, is, refl), tt))
 
   of_tokens : (tokens : List Token) → IsTextOrFault limit bytes (Ok tokens) → Ending IsReal query_within query_spelled tokens → HasAnswer
-  of_tokens tokens l (spelled q h) = let first = first_fault q in of_query q (tokens, l, h) first.0 first.1
+  of_tokens tokens l (spelled q h) = let first = first_fault q.query in of_query q (tokens, l, h) first.0 first.1
   of_tokens tokens l (stuck rest f) = (Err (NotSpelled (parse.Text (text.Expected (place (length bytes) rest)))), ((tokens, l, rest, f, refl), tt))
   of_tokens tokens l (past rest f) = of_past tokens rest l f (starts is_other_version rest) refl
 

@@ -7,7 +7,7 @@ ghost use Rattle.script_reader.specs.Script as script;
 ghost use Rattle.edit_spec.specs.declared.Edit.{Edit};
 ghost use Rattle.edit_reader.specs.Reads as edit;
 ghost use Rattle.query_spec.specs.Query.{Query};
-ghost use Rattle.struql_ast.specs.Written as written;
+ghost use Rattle.struql_orders.specs.Ordered.{OrderedQuery};
 ghost use Rattle.query_reader.specs.declared.QueryRefusal.{QueryRefusal};
 ghost use Rattle.answer_laws.specs.Queries.{AnswersWritten};
 ghost use Rattle.constraint_spec.specs.declared.Constraint.{Constraint};
@@ -17,7 +17,7 @@ ghost use Rattle.constraints.specs.Constraints as constraints;
 /// Each query's text has an answer besides out of memory: the query without faults that it spells, as
 /// it is written, or its first fault.
 pub fn each_query_has_an_answer()
-    ensures { (limit : ℕ) (bytes : List ℕ) → (r : Result written.Query QueryRefusal)
+    ensures { (limit : ℕ) (bytes : List ℕ) → (r : Result OrderedQuery QueryRefusal)
         × AnswersWritten limit bytes r }
 {}
 

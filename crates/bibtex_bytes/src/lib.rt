@@ -121,7 +121,8 @@ pub fn letters(alloc: Global, bytes: &[u8]) -> Result<(Vec<u8>, &[u8]), NoMemory
 
 /// The longest run of a name's bytes in lower case, and the bytes behind it.
 pub fn name_bytes(alloc: Global, wide: bool, bytes: &[u8]) -> Result<(Vec<u8>, &[u8]), NoMemory>
-    ensures is { IfOk result (λ x. (x.0.items ≡ map specs.lower (run (specs.is_name_byte wide) bytes.now))
+    ensures is { IfOk result (λ x.
+        (x.0.items ≡ map specs.lower (run (specs.is_name_byte wide) bytes.now))
         × (x.1.now ≡ behind (specs.is_name_byte wide) bytes.now)) }
     ensures shorter { IfOk result (λ x. length x.1.now ≤ length bytes.now) }
 {

@@ -15,7 +15,8 @@ IsFirstFault first = FirstFault IsByte (text strict first) (text free first)
 -- `rest` begins with a word that passes a limit, behind which none of some bytes stands. What stands before goes on to
 -- a text within the rules; with the word, and no such byte behind it, it goes on to a text of the grammar, but to none
 -- within the rules.
-pub record IsPassedBy (first : MacroTexts) (word : List ℕ) (stops : ℕ → Bool) (bytes rest : List ℕ) : Type 0 where
+pub record IsPassedBy (first : MacroTexts) (word : List ℕ) (stops : ℕ → Bool)
+    (bytes rest : List ℕ) : Type 0 where
   pub front : List ℕ
   pub later : List ℕ
   pub parts : bytes ≡ front ++ rest

@@ -2,6 +2,7 @@ pub mod Tidied
 pub mod Commas
 pub mod Loops
 pub mod Steps
+pub mod Bibliography
 mod Cleared
 mod Spelled
 mod SpelledText

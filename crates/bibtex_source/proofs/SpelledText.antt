@@ -1,6 +1,6 @@
 -- The steps of a whole text are those that its grammar gives.
 use Rattle.std.proofs.Common.{◌≡◌, ◌+◌, ◌-◌, ℕ, Bool, true, false, List, [], ◌∷◌, ◌++◌, length, length-append, refl, sym, ap, subst, ◌∙◌, append_assoc, inl, inr, arith}
-use Rattle.std.specs.Prelude.{nat_eq, Option, Some, None, Result, ⊤}
+use Rattle.std.specs.Prelude.{◌==◌, ◌&&◌, not, nat_eq, if◌then◌else◌, Option, Some, None, Result, ⊤}
 use Rattle.std.proofs.lemmas.Bool.{eqb-true}
 use Rattle.grammar.specs.Fault.{Every}
 use Rattle.grammar.specs.Reading.{Past, starts}
@@ -15,13 +15,14 @@ use Rattle.bibtex_laws.proofs.Words.{run_parts, run_every, run_exact, behind_sto
 use Rattle.bibtex_laws.proofs.Items.{items_reader, text_reader}
 use Rattle.bibtex_laws.proofs.Whole.{is_first_fault, is_passed}
 use Rattle.bibtex_source.specs.declared.refusal.BibRefusal.{BibRefusal}
-use Rattle.bibtex_source.specs.declared.refusal.BibRefusal.TheVariants.{UnknownMacro, TooDeep, TooLarge}
-use Rattle.bibtex_source.specs.Text.{BibStep, macro_fault, limit_fault, items_steps, text_by, text_steps, entries_within, entries_in}
+use Rattle.bibtex_source.specs.declared.refusal.BibRefusal.TheVariants.{Expected, UnknownMacro, TooDeep, TooLarge}
+use Rattle.bibtex_source.specs.Text.{BibStep, macro_fault, limit_fault, items_steps, is_no_bibliography, read_by, source_in, text_by, text_steps, entries_within, entries_in}
 use Rattle.bibtex_source.specs.Source.{Source, source_of}
 use Rattle.sd_graph.specs.Stating.{fails}
 use Rattle.bibtex_source.specs.declared.rules.BibRules.{BibRules}
 use Rattle.bibtex_source.specs.Reads.{Reads}
-use Rattle.bibtex_source.specs.Spelled.{IsNameAt, IsFault, IsSteps, phrases_steps, phrases_entries, macros_after, AnswersAsSpelled}
+use Rattle.bibtex_source.specs.Spelled.{IsNameAt, IsFault, IsSteps, IsNoBibliography, IsReadBy, phrases_steps, phrases_entries, macros_after, AnswersAsSpelled}
+use Rattle.bibtex_source.proofs.Steps.{no_bytes}
 use Rattle.bibtex_source.proofs.Spelled.{IsEnd, IsWalked, junk_past, junk_past_entries, walk}
 
 -- which limit it is, by what stands there
@@ -121,5 +122,54 @@ module _ (rules : BibRules) (stem : Name) (file : List ℕ) (first : MacroTexts)
       (subst (λ steps. IsWalked source stem (length bytes) first (length before) marked steps (entries_within (length bytes) first marked)) (junk_past source stem (length bytes) (length bytes) first bytes)
       (walk source stem (length bytes) (length bytes) first (length before) marked (omega (arith, parts)) parts (behind_stops is_junk bytes))))
 
+-- whether a text is no bibliography
+
+module _ (belongs : ℕ → Bool) where
+  none_behind : (ts : List ℕ) → (length (behind belongs ts) == 0) ≡ true → Every (λ b. belongs b ≡ true) ts
+  none_behind [] none = tt
+  none_behind (b ∷ ts) none = by (belongs b) refl (none_behind ts) none
+    where
+      by : (p : Bool) → belongs b ≡ p
+          → ((length (behind belongs ts) == 0) ≡ true → Every (λ b. belongs b ≡ true) ts)
+          → (length (if p then behind belongs ts else b ∷ ts) == 0) ≡ true → Every (λ b. belongs b ≡ true) (b ∷ ts)
+      by true is again none = (is, again none)
+      by false is again none = let e : b ∷ ts ≡ [] = no_bytes (b ∷ ts) none in absurd cc
+
+  behind_none : (ts : List ℕ) → Every (λ b. belongs b ≡ true) ts → (length (behind belongs ts) == 0) ≡ true
+  behind_none [] all = refl
+  behind_none (b ∷ ts) all = rw all.0 (behind_none ts all.1)
+
+is_filled : (text : List ℕ) → (text ≡ [] → ⊥) → (length text == 0) ≡ false
+is_filled text some = by (length text == 0) refl
+  where
+    by : (p : Bool) → (length text == 0) ≡ p → p ≡ false
+    by true is = absurd (some (no_bytes text is))
+    by false is = refl
+
+module _ (rules : BibRules) (text : List ℕ) where
+  no_bibliography : is_no_bibliography rules text ≡ true → IsNoBibliography rules text
+  no_bibliography h = by rules.comments (length text == 0) (length (behind is_junk text) == 0) refl refl refl h
+    where
+      by : (p q r : Bool) → rules.comments ≡ p → (length text == 0) ≡ q → (length (behind is_junk text) == 0) ≡ r → (p && not q && r) ≡ true → IsNoBibliography rules text
+      by false q r comments some none h = absurd cc
+      by true true r comments some none h = absurd cc
+      by true false false comments some none h = absurd cc
+      by true false true comments some none h =
+          (comments, (λ e. (let other : (length text == 0) ≡ true = ap (λ x. length x == 0) e in cc)), none_behind is_junk text none)
+
+  told : IsNoBibliography rules text → is_no_bibliography rules text ≡ true
+  told h = by rules.comments (length text == 0) (length (behind is_junk text) == 0) h.0 (is_filled text h.1) (behind_none is_junk text h.2)
+    where
+      by : (p q r : Bool) → p ≡ true → q ≡ false → r ≡ true → (p && not q && r) ≡ true
+      by p q r comments some none = rw (comments, some, none) refl
+
+  is_read_by : (stem : Name) (file : List ℕ) → IsReadBy rules stem file text (read_by rules stem file text)
+  is_read_by stem file = by (is_no_bibliography rules text) refl
+    where
+      by : (p : Bool) → is_no_bibliography rules text ≡ p
+          → IsReadBy rules stem file text (if p then fails (Expected 0) ∷ [] else items_steps (source_in rules file text) stem (months rules.names) text)
+      by true is = inl (no_bibliography is, refl)
+      by false is = inr ((λ h. (let other : is_no_bibliography rules text ≡ true = told h in cc)), is_steps rules stem file (months rules.names) text)
+
 pub tells : (rules : BibRules) (stem : Name) (bytes : List ℕ) (b c : Building) (result : Result ⊤ BibRefusal) → Reads rules stem bytes b c result → AnswersAsSpelled rules stem bytes b c result
-tells rules stem bytes b c result reads = (text_steps rules stem bytes, is_steps rules stem bytes (months rules.names) (text_by rules bytes), reads)
+tells rules stem bytes b c result reads = (text_steps rules stem bytes, is_read_by rules (text_by rules bytes) stem bytes, reads)

@@ -11,6 +11,7 @@ Fails (Expected rest) read = read ≡ Stuck rest.now
 Fails (Limit rest) read = read ≡ Past rest.now
 
 -- The answer, seen by `value` and `rest`, is what reading gives.
-abbrev pub GivesPhrase : {X A : Type 0} → (X → A) → (X → List ℕ) → Result X Halt → Outcome ℕ A → Type 0
+abbrev pub GivesPhrase : {X A : Type 0} → (X → A) → (X → List ℕ) → Result X Halt → Outcome ℕ A
+    → Type 0
 GivesPhrase value rest (Ok x) read = read ≡ Read (value x) (rest x)
 GivesPhrase value rest (Err e) read = Fails e read

@@ -47,7 +47,8 @@ or_text text None None = text
 -- a month's number, or the text itself
 abbrev pub month_text : List ℕ → List ℕ
 month_text text =
-    or_text text (early_month (map lower (without_stop text))) (late_month (map lower (without_stop text)))
+    or_text text
+    (early_month (map lower (without_stop text))) (late_month (map lower (without_stop text)))
 
 abbrev pub read_text : List ℕ → List ℕ → List ℕ
 read_text name text =
@@ -105,4 +106,5 @@ listed (name ∷ second ∷ third ∷ names) = name ++ (codes ", " ++ listed (se
 
 abbrev pub byline : List Field → List ℕ
 byline fields =
-    listed (map shown_name (or_editors (people (codes "author") fields) (people (codes "editor") fields)))
+    listed (map shown_name
+    (or_editors (people (codes "author") fields) (people (codes "editor") fields)))

@@ -29,7 +29,8 @@ abbrev pub entries_by : Parents → Entries
 entries_by parents key = get bytes_cmp parents.of key
 
 abbrev pub seen : Reading → Source
-seen r = record { rules = r.rules; file = r.file.now; text = r.text.now; entries = entries_by r.parents }
+seen r =
+    record { rules = r.rules; file = r.file.now; text = r.text.now; entries = entries_by r.parents }
 
 -- the fields of the first entry of the key
 abbrev pub fields_at : List (Name × List Field) → Entries
@@ -43,7 +44,12 @@ no_entries key = None
 -- by the rules, entries are found by their keys
 abbrev pub source_of : BibRules → (file text : List ℕ) → List (Name × List Field) → Source
 source_of rules file text entries =
-    record { rules = rules; file = file; text = text; entries = (if rules.crossrefs then fields_at entries else no_entries) }
+    record {
+      rules = rules;
+      file = file;
+      text = text;
+      entries = (if rules.crossrefs then fields_at entries else no_entries);
+    }
 
 -- the key in the first field `crossref`
 abbrev pub crossref_of : List Field → Option Name
@@ -74,7 +80,8 @@ lacking own [] = []
 lacking own (field ∷ fields) =
     if keeps_own own field.name then lacking own fields else field ∷ lacking own fields
 
-abbrev pub from_parent : (List Field → List Field → List Field) → List Field → Option (List Field) → List Field
+abbrev pub from_parent : (List Field → List Field → List Field) → List Field
+    → Option (List Field) → List Field
 from_parent further own None = own
 from_parent further own (Some fields) = further (own ++ lacking own fields) fields
 

@@ -69,7 +69,8 @@ macros_after macros (phrase ∷ phrases) = macros_after (macros_behind macros ph
 
 -- A text of this file that is refused: its front spells these phrases, and they are stated before the fault. No further
 -- item stands behind them, up to an `@` or the end of the text.
-pub record IsCutShort (rules : BibRules) (stem : Name) (file : List ℕ) (first : MacroTexts) (bytes : List ℕ) (steps : List BibStep) : Type 0 where
+pub record IsCutShort (rules : BibRules) (stem : Name) (file : List ℕ) (first : MacroTexts)
+    (bytes : List ℕ) (steps : List BibStep) : Type 0 where
   pub front : List ℕ
   pub back : List ℕ
   pub phrases : List Phrase
@@ -93,8 +94,21 @@ IsSteps rules stem file first bytes steps =
     × (steps ≡ phrases_steps (source_of rules file bytes (phrases_entries phrases)) stem phrases))
     ⊎ IsCutShort rules stem file first bytes steps
 
--- The steps that the grammar gives of the text that is read by the rules are taken from b, lead to c, and end with this answer.
-abbrev pub AnswersAsSpelled : BibRules → Name → List ℕ → Building → Building → Result ⊤ BibRefusal → Type 0
+-- By the rules this is no bibliography: the text has bytes, and each of them is junk.
+abbrev pub IsNoBibliography : BibRules → List ℕ → Type 0
+IsNoBibliography rules text =
+    (rules.comments ≡ true) × (text ≡ [] → ⊥) × Every (λ b. is_junk b ≡ true) text
+
+-- The steps of a file of which this text is read. If it is no bibliography, it is refused at its first byte.
+abbrev pub IsReadBy : BibRules → Name → (file text : List ℕ) → List BibStep → Type 0
+IsReadBy rules stem file text steps =
+    (IsNoBibliography rules text × (steps ≡ fails (Expected 0) ∷ []))
+    ⊎ ((IsNoBibliography rules text → ⊥) × IsSteps rules stem file (months rules.names) text steps)
+
+-- The steps that the grammar gives of the text that is read by the rules are taken from b, lead to c, and end with this
+-- answer.
+abbrev pub AnswersAsSpelled : BibRules → Name → List ℕ → Building → Building
+    → Result ⊤ BibRefusal → Type 0
 AnswersAsSpelled rules stem bytes b c result =
-    (steps : List BibStep) × IsSteps rules stem bytes (months rules.names) (text_by rules bytes) steps
+    (steps : List BibStep) × IsReadBy rules stem bytes (text_by rules bytes) steps
     × Ends b steps c (bib_ending result)

@@ -1,5 +1,5 @@
 -- What a BibTeX text states of a data graph, step by step.
-use Rattle.std.specs.Prelude.{◌≡◌, ◌⊎◌, ◌-◌, ◌==◌, ◌&&◌, ℕ, zero, suc, false, List, [], ◌∷◌, ◌++◌, length, codes, nat_eq, if◌then◌else◌, Option, Some, None, Result, Ok, Err, ⊤}
+use Rattle.std.specs.Prelude.{◌≡◌, ◌⊎◌, ◌-◌, ◌==◌, ◌&&◌, not, ℕ, zero, suc, Bool, false, List, [], ◌∷◌, ◌++◌, length, codes, nat_eq, if◌then◌else◌, Option, Some, None, Result, Ok, Err, ⊤}
 use Rattle.std.specs.Str.{bytes_eq}
 use Rattle.grammar.specs.Reading.{Outcome, Read, Stuck, Past, starts}
 use Rattle.graph_spec.specs.DataGraph.{Name}
@@ -64,7 +64,8 @@ bytes_steps source at key =
 
 -- fields in this order, and the people that they name
 abbrev pub shown_steps : Source → ℕ → Name → List Field → List BibStep
-shown_steps source at key fields = fields_steps source at key fields ++ byline_steps source at key fields
+shown_steps source at key fields =
+    fields_steps source at key fields ++ byline_steps source at key fields
 
 -- an entry: its node, a member of the file's collection and of its type's, its bytes, its fields with those that it
 -- lacks, and its people
@@ -72,7 +73,8 @@ abbrev pub entry_steps : Source → Name → ℕ → Entry → List BibStep
 entry_steps source stem at entry =
     says at (a_node entry.key) ∷ says at (a_member stem entry.key)
     ∷ says at (a_member entry.class entry.key)
-    ∷ (bytes_steps source at entry.key ++ shown_steps source at entry.key (all_fields source entry.fields))
+    ∷ (bytes_steps source at entry.key
+    ++ shown_steps source at entry.key (all_fields source entry.fields))
 
 -- what an item of a text of `whole` bytes states
 abbrev pub item_steps : Source → Name → ℕ → Item → List BibStep
@@ -119,8 +121,8 @@ read_steps source stem whole macros later (Stuck rest) = fails (Expected (whole 
 read_steps source stem whole macros later (Past rest) = fails (limit_fault whole macros rest) ∷ []
 
 -- from an `@` on
-abbrev pub marked_steps : Source → Name → ℕ → MacroTexts → (MacroTexts → List ℕ → List BibStep) → List ℕ
-    → List BibStep
+abbrev pub marked_steps : Source → Name → ℕ → MacroTexts → (MacroTexts → List ℕ → List BibStep)
+    → List ℕ → List BibStep
 marked_steps source stem whole macros later [] = []
 marked_steps source stem whole macros later (b ∷ bytes) =
     read_steps source stem whole macros later (read_item macros (b ∷ bytes))
@@ -129,7 +131,8 @@ marked_steps source stem whole macros later (b ∷ bytes) =
 abbrev pub steps_within : ℕ → Source → Name → ℕ → MacroTexts → List ℕ → List BibStep
 steps_within zero source stem whole macros bytes = []
 steps_within (suc turns) source stem whole macros bytes =
-    marked_steps source stem whole macros (steps_within turns source stem whole) (behind is_junk bytes)
+    marked_steps source stem whole macros (steps_within turns source stem whole)
+    (behind is_junk bytes)
 
 -- all items, with these macros at first: there are at most as many as bytes
 abbrev pub items_steps : Source → Name → MacroTexts → List ℕ → List BibStep
@@ -170,10 +173,20 @@ entries_in first bytes = entries_within (length bytes) first bytes
 abbrev pub source_in : BibRules → (file text : List ℕ) → Source
 source_in rules file text = source_of rules file text (entries_in (months rules.names) text)
 
--- the items of the text that is read. A byte order mark is junk, and places count its bytes
+-- whether this is no bibliography, by rules that leave an `@` only where an item begins: it has bytes, but no `@`
+abbrev pub is_no_bibliography : BibRules → List ℕ → Bool
+is_no_bibliography rules text =
+    rules.comments && not (length text == 0) && length (behind is_junk text) == 0
+
+-- the items of this text of a file, which is refused at its first byte if it is no bibliography
+abbrev pub read_by : BibRules → Name → (file text : List ℕ) → List BibStep
+read_by rules stem file text =
+    if is_no_bibliography rules text then fails (Expected 0) ∷ []
+    else items_steps (source_in rules file text) stem (months rules.names) text
+
+-- What a file states. A byte order mark is junk, and places count its bytes; alone it is no bibliography.
 abbrev pub text_steps : BibRules → Name → List ℕ → List BibStep
-text_steps rules stem bytes =
-    items_steps (source_in rules bytes (text_by rules bytes)) stem (months rules.names) (text_by rules bytes)
+text_steps rules stem bytes = read_by rules stem bytes (text_by rules bytes)
 
 abbrev pub bib_ending : Result ⊤ BibRefusal → Ending ℕ BibRefusal
 bib_ending (Ok u) = done

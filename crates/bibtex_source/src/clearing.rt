@@ -25,28 +25,28 @@ fn has_opening(bytes: &[u8]) -> bool
     }
 }
 
-// What an `@` with this word begins: an item with a key or without, or none.
-fn item_of_word(word: &[u8]) -> Option<bool>
-    ensures { result ≡ specs.item_of_word word.now }
+// Where the bytes behind the `@` of an item with this word are.
+fn behind_mark(word: &[u8]) -> Spot
+    ensures { result ≡ specs.behind_mark word.now }
 {
     if word == b"comment".as_slice() {
-        return None;
+        return Spot::Outside;
     }
-    Some(!(word == b"string".as_slice() || word == b"preamble".as_slice()))
+    Spot::Word(!(word == b"string".as_slice() || word == b"preamble".as_slice()))
 }
 
-// What an `@` begins before these bytes.
-fn item_at(alloc: Global, bytes: &[u8]) -> Result<Option<bool>, NoMemory>
-    ensures { IfOk result (λ found. found ≡ specs.item_at bytes.now) }
+// What stands for an `@` before these bytes, and where they are.
+fn marked(alloc: Global, bytes: &[u8]) -> Result<(u8, Spot), NoMemory>
+    ensures { IfOk result (λ x. x ≡ specs.marked bytes.now) }
 {
     if !has_letter(bytes) {
-        return Ok(None);
+        return Ok((b' ', Spot::Outside));
     }
     let (word, rest) = letters(alloc, bytes)?;
     if !has_opening(behind_blanks(rest)) {
-        return Ok(None);
+        return Ok((b' ', Spot::Outside));
     }
-    Ok(item_of_word(word.as_slice()))
+    Ok((b'@', behind_mark(word.as_slice())))
 }
 
 fn behind_opening(keyed: bool, close: u8) -> Spot
@@ -106,16 +106,6 @@ fn behind_key_byte(close: u8, b: u8) -> Spot
     }
 }
 
-// What stands for an `@` before these bytes, and where the next byte is.
-fn marked(alloc: Global, later: &[u8]) -> Result<(u8, Spot), NoMemory>
-    ensures { IfOk result (λ x. x ≡ specs.passed Spot.Outside 64 later.now) }
-{
-    match item_at(alloc, behind_blanks(later))? {
-        Some(keyed) => Ok((b'@', Spot::Word(keyed))),
-        None => Ok((b' ', Spot::Outside)),
-    }
-}
-
 /// What stands for a byte, and where the next one is.
 pub(crate) fn passed(alloc: Global, spot: Spot, b: u8, later: &[u8]) -> Result<(u8, Spot), NoMemory>
     ensures { IfOk result (λ x. x ≡ specs.passed spot b later.now) }
@@ -123,7 +113,7 @@ pub(crate) fn passed(alloc: Global, spot: Spot, b: u8, later: &[u8]) -> Result<(
     match spot {
         Spot::Outside => {
             if b == b'@' {
-                return marked(alloc, later);
+                return marked(alloc, behind_blanks(later));
             }
             Ok((b, Spot::Outside))
         }

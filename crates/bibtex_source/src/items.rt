@@ -77,7 +77,8 @@ fn next_item<'a>(
 ) -> Result<(Item, &'a [u8]), BibRefusal>
     ensures item { IfOk result (λ x. read_item macros.now bytes.now ≡ Read x.0 x.1.now) }
     ensures shorter { IfOk result (λ x. length x.1.now < length bytes.now) }
-    ensures fault { IfErr result (λ e. IsItemFault whole macros.now (read_item macros.now bytes.now) e) }
+    ensures fault { IfErr result
+        (λ e. IsItemFault whole macros.now (read_item macros.now bytes.now) e) }
 {
     match item_at(alloc, macros, bytes) {
         Ok(read) => Ok(read),
@@ -97,7 +98,8 @@ fn add_item(
     macros: &mut Macros,
     item: Item,
 ) -> Result<(), BibRefusal>
-    ensures states { Ends graph.old (item_steps (seen reading.now) stem.now whole item) graph.new (bib_ending result) }
+    ensures states { Ends graph.old (item_steps (seen reading.now) stem.now whole item)
+        graph.new (bib_ending result) }
     ensures defines { OnOk result (macros.new ≡ macros_behind macros.old item) }
 {
     match item {
@@ -119,7 +121,8 @@ pub(crate) fn add_items(
     macros: Macros,
     bytes: &[u8],
 ) -> Result<(), BibRefusal>
-    ensures { Ends graph.old (items_steps (seen reading.now) stem.now macros bytes.now) graph.new (bib_ending result) }
+    ensures { Ends graph.old (items_steps (seen reading.now) stem.now macros bytes.now)
+        graph.new (bib_ending result) }
 {
     let whole = bytes.len() as u64;
     let mut macros = macros;

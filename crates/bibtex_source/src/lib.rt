@@ -6,7 +6,8 @@ ghost use Rattle.bibtex_spec.specs.Clear.{cleared};
 ghost use Rattle.sd_graph.specs.Statement.{Building};
 ghost use Rattle.sd_graph.specs.Stating.{Ends};
 ghost use Rattle.bibtex_spec.specs.Macros.{months as month_macros};
-ghost use Rattle.bibtex_source.specs.Text.{items_steps, source_in, bib_ending};
+ghost use Rattle.bibtex_source.specs.Text.{items_steps, is_no_bibliography, read_by, source_in};
+ghost use Rattle.bibtex_source.specs.Text.{bib_ending};
 ghost use Rattle.bibtex_source.specs.Reads.{Reads, HasOneAnswer};
 ghost use Rattle.bibtex_source.specs.Spelled.{AnswersAsSpelled};
 ghost use Rattle.bibtex_source.specs.declared.rules.BibRules.{BibRules};
@@ -27,6 +28,7 @@ mod source;
 mod statements;
 mod values;
 
+use bibtex_bytes::behind_junk;
 use clearing::clear;
 use entries::reading_of;
 use items::add_items;
@@ -55,7 +57,34 @@ fn add_read(
     add_items(alloc, &reading, graph, stem, macros, text)
 }
 
+// Whether this is no bibliography by the rules.
+fn is_no_bibliography(rules: BibRules, text: &[u8]) -> bool
+    ensures { result ≡ is_no_bibliography rules text.now }
+{
+    rules.comments && !text.is_empty() && behind_junk(text).is_empty()
+}
+
+// The items of this text of a file, if it is a bibliography.
+#[tactic(auto, using(crate::proofs::Bibliography::is_refused, crate::proofs::Bibliography::is_stated))]
+fn add_bibliography(
+    alloc: Global,
+    rules: BibRules,
+    stem: &Str,
+    file: &[u8],
+    text: &[u8],
+    graph: &mut GraphBuilder,
+) -> Result<(), BibRefusal>
+    ensures { Ends graph.old (read_by rules stem.now file.now text.now)
+        graph.new (bib_ending result) }
+{
+    if is_no_bibliography(rules, text) {
+        return Err(BibRefusal::Expected(0));
+    }
+    add_read(alloc, rules, stem, file, text, graph)
+}
+
 // The items of the text that is read by the rules.
+#[tactic(auto, using(crate::proofs::Bibliography::as_it_is, crate::proofs::Bibliography::as_cleared))]
 fn add_text(
     alloc: Global,
     rules: BibRules,
@@ -66,10 +95,10 @@ fn add_text(
     ensures { Reads rules stem.now bytes.now graph.old graph.new result }
 {
     if !rules.comments {
-        return add_read(alloc, rules, stem, bytes, bytes, graph);
+        return add_bibliography(alloc, rules, stem, bytes, bytes, graph);
     }
     let text = clear(alloc, bytes)?;
-    add_read(alloc, rules, stem, bytes, text.as_slice(), graph)
+    add_bibliography(alloc, rules, stem, bytes, text.as_slice(), graph)
 }
 
 /// Adds what a BibTeX text states, read by the rules. Each entry is the node of its key, a member of STEM and of its

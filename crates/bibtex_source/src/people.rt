@@ -102,7 +102,8 @@ fn people(alloc: Global, name: &[u8], fields: &[Field]) -> Result<Vec<Str>, NoMe
 
 // The authors, else the editors.
 fn authors_or_editors(alloc: Global, fields: &[Field]) -> Result<Vec<Str>, NoMemory>
-    ensures { IfOk result (λ v. v.items ≡ specs.or_editors (specs.people (codes "author") fields.now)
+    ensures { IfOk result (λ v. v.items
+        ≡ specs.or_editors (specs.people (codes "author") fields.now)
         (specs.people (codes "editor") fields.now)) }
 {
     let authors = people(alloc, b"author", fields)?;

@@ -6,7 +6,7 @@ pub struct BibRules {
     /// Names may begin with `_` and have bytes beyond ASCII, and one that no `@string` defines stands for itself, as it is
     /// written.
     pub names: bool,
-    /// Comments, and each `@` that begins no item, are passed over.
+    /// Comments, and each `@` that begins no item, are passed over, and a text that has bytes but no item is refused.
     pub comments: bool,
     /// Texts are those that TeX shows, and a month is its number.
     pub readable: bool,

@@ -60,7 +60,8 @@ impl Parents {
 
     /// The fields of the entry that these fields name.
     pub(crate) fn parent_of(&self, fields: &[Field]) -> Option<&Fields>
-        ensures some { IfSome result (λ p. parent_of (entries_by self.now) fields.now ≡ Some p.now) }
+        ensures some { IfSome result
+            (λ p. parent_of (entries_by self.now) fields.now ≡ Some p.now) }
         ensures none { IfNone result (parent_of (entries_by self.now) fields.now ≡ None) }
     {
         match crossref_of(fields) {

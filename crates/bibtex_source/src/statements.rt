@@ -133,7 +133,8 @@ fn add_field(
     key: &Str,
     field: &Field,
 ) -> Result<(), BibRefusal>
-    ensures { Ends graph.old (field_steps (seen reading.now) at key.now field.now) graph.new (bib_ending result) }
+    ensures { Ends graph.old (field_steps (seen reading.now) at key.now field.now)
+        graph.new (bib_ending result) }
 {
     if reading.rules.crossrefs && field.name.bytes() == b"crossref".as_slice() {
         return add_node(alloc, graph, at, key, &field.name, &field.text);
@@ -150,7 +151,8 @@ fn add_fields(
     key: &Str,
     fields: &[Field],
 ) -> Result<(), BibRefusal>
-    ensures { Ends graph.old (fields_steps (seen reading.now) at key.now fields.now) graph.new (bib_ending result) }
+    ensures { Ends graph.old (fields_steps (seen reading.now) at key.now fields.now)
+        graph.new (bib_ending result) }
 {
     let mut left = fields;
     'fields: while let Some((field, more)) = left.split_first() {
@@ -169,7 +171,8 @@ fn add_byline(
     key: &Str,
     fields: &[Field],
 ) -> Result<(), BibRefusal>
-    ensures { Ends graph.old (byline_steps (seen reading.now) at key.now fields.now) graph.new (bib_ending result) }
+    ensures { Ends graph.old (byline_steps (seen reading.now) at key.now fields.now)
+        graph.new (bib_ending result) }
 {
     if !reading.rules.bylines {
         return Ok(());
@@ -187,7 +190,8 @@ fn add_bytes(
     at: u64,
     key: &Str,
 ) -> Result<(), BibRefusal>
-    ensures { Ends graph.old (bytes_steps (seen reading.now) at key.now) graph.new (bib_ending result) }
+    ensures { Ends graph.old (bytes_steps (seen reading.now) at key.now)
+        graph.new (bib_ending result) }
 {
     if !reading.rules.bytes {
         return Ok(());
@@ -260,7 +264,8 @@ pub(crate) fn add_entry(
     at: u64,
     entry: &Entry,
 ) -> Result<(), BibRefusal>
-    ensures { Ends graph.old (entry_steps (seen reading.now) stem.now at entry.now) graph.new (bib_ending result) }
+    ensures { Ends graph.old (entry_steps (seen reading.now) stem.now at entry.now)
+        graph.new (bib_ending result) }
 {
     state_node(alloc, graph, at, &entry.key)?;
     state_member(alloc, graph, at, stem, &entry.key)?;

@@ -1,6 +1,6 @@
 -- A text in which blanks stand for what a lenient reader passes over: a comment, from a `%` between items or where blanks
 -- may stand within one to the end of its line, and an `@` that begins no item. Each byte keeps its place.
-use Rattle.std.specs.Prelude.{◌||◌, ◌&&◌, ℕ, Bool, true, false, List, [], ◌∷◌, codes, map, nat_eq, if◌then◌else◌, Option, Some, None}
+use Rattle.std.specs.Prelude.{◌||◌, ◌&&◌, ℕ, Bool, true, false, List, [], ◌∷◌, codes, map, nat_eq, if◌then◌else◌}
 use Rattle.std.specs.Str.{bytes_eq}
 use Rattle.grammar.specs.Reading.{starts}
 use Rattle.bibtex_spec.specs.declared.Spot.{Spot}
@@ -17,18 +17,19 @@ ends_line b = nat_eq b 10 || nat_eq b 13
 abbrev pub opens : ℕ → Bool
 opens b = nat_eq b 123 || nat_eq b 40
 
--- what an `@` with this word begins: an item with a key or without, or none
-abbrev pub item_of_word : List ℕ → Option Bool
-item_of_word word =
-    if bytes_eq word (codes "comment") then None
-    else Some (if bytes_eq word (codes "string") then false
-    else if bytes_eq word (codes "preamble") then false else true)
+-- where the bytes behind the `@` of an item with this word are: an `@comment` is its word alone
+abbrev pub behind_mark : List ℕ → Spot
+behind_mark word =
+    if bytes_eq word (codes "comment") then Outside
+    else if bytes_eq word (codes "string") then Word false
+    else if bytes_eq word (codes "preamble") then Word false else Word true
 
--- what an `@` begins before these bytes: an item, if letters and an opening byte come next, blanks aside
-abbrev pub item_at : List ℕ → Option Bool
-item_at bytes =
+-- What stands for an `@` before these bytes, and where they are. It begins an item, if letters and an opening byte come
+-- next, blanks aside.
+abbrev pub marked : List ℕ → ℕ × Spot
+marked bytes =
     if starts is_letter bytes && starts opens (behind is_blank (behind is_letter bytes))
-    then item_of_word (map lower (run is_letter bytes)) else None
+    then (64, behind_mark (map lower (run is_letter bytes))) else (32, Outside)
 
 -- behind the byte that opens an item, and by it the one that closes
 abbrev pub behind_opening : (keyed : Bool) → ℕ → Spot
@@ -51,18 +52,16 @@ behind_text ends depth close Unpaired = Body close
 behind_text ends depth close TooDeep = Text ends depth close
 behind_text ends depth close (Goes next) = Text ends next close
 
--- an `@`, and what it begins
-abbrev pub marked : Option Bool → ℕ × Spot
-marked None = (32, Outside)
-marked (Some keyed) = (64, Word keyed)
-
 -- what stands for a byte, and where the next one is. `bytes` are behind it
 abbrev pub passed : Spot → ℕ → List ℕ → ℕ × Spot
 passed Outside b bytes =
-    if nat_eq b 64 then marked (item_at (behind is_blank bytes)) else (b, Outside)
+    if nat_eq b 64 then marked (behind is_blank bytes) else (b, Outside)
 passed (Word keyed) b bytes = (b, behind_word keyed b)
-passed (BeforeKey close) b bytes =
-    (b, (if is_blank b then BeforeKey close else if is_key_byte b then Key close else behind_body close b))
+passed (BeforeKey close) b bytes = (
+  b,
+  (if is_blank b then BeforeKey close
+      else if is_key_byte b then Key close else behind_body close b),
+)
 passed (Key close) b bytes = (b, (if is_key_byte b then Key close else behind_body close b))
 passed (Body close) b bytes = (b, behind_body close b)
 passed (Text ends depth close) b bytes = (b, behind_text ends depth close (nesting ends depth b))

@@ -106,7 +106,8 @@ read_enclosed close = spaced (opened close)
 
 -- the text of the macro that was read from these bytes, where there is room for it
 abbrev pub macro_read : List ℕ → List ℕ → List ℕ → Option (List ℕ) → Outcome ℕ (List ℕ)
-macro_read before bytes rest (Some text) = if has_room before text then Read text rest else Past bytes
+macro_read before bytes rest (Some text) =
+    if has_room before text then Read text rest else Past bytes
 macro_read before bytes rest None = Past bytes
 
 -- a piece of a value that has the text `before` so far

@@ -1,25 +1,37 @@
 // Where the first head of bytes ends.
 ghost use Rattle.std.specs.Prelude.{◌≡◌, ◌≤◌, ◌<◌, ◌++◌, length};
 
+use memchr::memchr;
+
 /// How many bytes there are up to the first blank line, with the line ends after it, or all. Carriage returns don't
 /// count.
 pub fn head_end(bytes: &[u8]) -> usize
     ensures within { result ≤ length bytes.now }
     ensures some { 0 < length bytes.now → 0 < result }
 {
-    // as if a line had just ended: a blank line may begin in what came before
-    let mut ended = true;
-    let mut blank = false;
-    for (at, byte) in bytes.iter().enumerate() {
-        match *byte {
-            b'\n' if ended => blank = true,
-            b'\n' => ended = true,
-            b'\r' => {}
-            _ if blank => return at,
-            _ => ended = false,
+    // (the first line may be the end of one that began in what came before)
+    let mut at = 0;
+    while let Some(length) = memchr(b'\n', &bytes[at..]) {
+        let is_blank = bytes[at..at + length].iter().all(|byte| *byte == b'\r');
+        at += length + 1;
+        if is_blank {
+            return at + count_line_ends(&bytes[at..]);
         }
     }
     bytes.len()
+}
+
+// How many bytes of line ends there are at the front.
+fn count_line_ends(bytes: &[u8]) -> usize
+    ensures { result ≤ length bytes.now }
+{
+    match bytes
+        .iter()
+        .position(|byte| *byte != b'\r' && *byte != b'\n')
+    {
+        Some(end) => end,
+        None => bytes.len(),
+    }
 }
 
 /// The bytes up to the end of the first head, and the others.

@@ -4,7 +4,7 @@ use Rattle.std.specs.Prelude.{IsTrue, Result, Ok, Err, All, Option, ⊤}
 use Rattle.edge_io.specs.Files.{FileMap}
 use Rattle.edge_io.specs.Counts.{NoneFell}
 use Rattle.edge_io.specs.Sink.{Gains}
-use Rattle.query_spec.specs.Query as plain
+use Rattle.struql_orders.specs.Ordered.{Ordered}
 use Rattle.constraint_spec.specs.declared.Constraint.{Constraint}
 use Rattle.run_report.specs.declared.reports.Report.{Report}
 use Rattle.command_check.specs.Told.{SomeIsFound, AreTold}
@@ -26,12 +26,12 @@ use Rattle.command_check.proofs.Stopped.{then_next}
 -- ---- whether all are answered yes
 
 -- the answer says whether each constraint has a certificate
-abbrev AnswerTaken : plain.Query → List Constraint → Result Bool Fault → Type 0
-AnswerTaken query constraints (Ok all_yes) = IsTrue all_yes ↔ All (SomeIsFound query) constraints
+abbrev AnswerTaken : Ordered → List Constraint → Result Bool Fault → Type 0
+AnswerTaken query constraints (Ok all_yes) = IsTrue all_yes ↔ All (SomeIsFound query.query) constraints
 AnswerTaken query constraints (Err NoMemory) = ⊤
 AnswerTaken query constraints (Err fault) = ⊥
 
-taken_answer : (query : plain.Query) (constraints : List Constraint) (result : Result Report Fault) → VerdictsTaken query constraints result → AnswerTaken query constraints (all_yes_of result)
+taken_answer : (query : Ordered) (constraints : List Constraint) (result : Result Report Fault) → VerdictsTaken query constraints result → AnswerTaken query constraints (all_yes_of result)
 taken_answer query constraints (Ok r) t = yes_is_shown query constraints r.text r.passed t
 taken_answer query constraints (Err (Refused r)) t = t
 taken_answer query constraints (Err (Unread p)) t = t
@@ -39,8 +39,8 @@ taken_answer query constraints (Err (Faulty term kind)) t = t
 taken_answer query constraints (Err NotFound) t = t
 taken_answer query constraints (Err NoMemory) t = t
 
-answer_once : (query : plain.Query) (constraints : List Constraint) (one other : Result Bool Fault) → AnswerTaken query constraints one → AnswerTaken query constraints other → IsDecided one → IsDecided other → one ≡ other
-answer_once query constraints (Ok a) (Ok b) s t d e = ap Ok (same_test a b (All (SomeIsFound query) constraints) s t)
+answer_once : (query : Ordered) (constraints : List Constraint) (one other : Result Bool Fault) → AnswerTaken query constraints one → AnswerTaken query constraints other → IsDecided one → IsDecided other → one ≡ other
+answer_once query constraints (Ok a) (Ok b) s t d e = ap Ok (same_test a b (All (SomeIsFound query.query) constraints) s t)
 answer_once query constraints (Err (Refused r)) other s t d e = absurd s
 answer_once query constraints (Err (Unread p)) other s t d e = absurd d
 answer_once query constraints (Err (Faulty term kind)) other s t d e = absurd s
@@ -64,17 +64,17 @@ decided_answer (Err fault) d = d
 
 module _ (map : FileMap) (query_path constraints_path : List ℕ) where
   abbrev pub AnswerEnds : Result Bool Fault → Type 0
-  AnswerEnds = Then (QueryEnds map query_path) (λ query. Then (ConstraintsEnd query map constraints_path) (AnswerTaken query))
+  AnswerEnds = Then (QueryEnds map query_path) (λ query. Then (ConstraintsEnd query.query map constraints_path) (AnswerTaken query))
 
   pub answer_ends : (result : Result Report Fault) → CheckEnds map query_path constraints_path result → AnswerEnds (all_yes_of result)
   answer_ends =
-      then_answer (QueryEnds map query_path) (λ query. Then (ConstraintsEnd query map constraints_path) (VerdictsTaken query)) (λ query. Then (ConstraintsEnd query map constraints_path) (AnswerTaken query))
-      (λ query. then_answer (ConstraintsEnd query map constraints_path) (VerdictsTaken query) (AnswerTaken query) (taken_answer query))
+      then_answer (QueryEnds map query_path) (λ query. Then (ConstraintsEnd query.query map constraints_path) (VerdictsTaken query)) (λ query. Then (ConstraintsEnd query.query map constraints_path) (AnswerTaken query))
+      (λ query. then_answer (ConstraintsEnd query.query map constraints_path) (VerdictsTaken query) (AnswerTaken query) (taken_answer query))
 
   pub answers_decide : Decides AnswerEnds
   answers_decide =
-      then_decides (QueryEnds map query_path) (λ query. Then (ConstraintsEnd query map constraints_path) (AnswerTaken query)) (query_decides map query_path) (λ query.
-      then_decides (ConstraintsEnd query map constraints_path) (AnswerTaken query) (constraints_decide query map constraints_path) (λ constraints.
+      then_decides (QueryEnds map query_path) (λ query. Then (ConstraintsEnd query.query map constraints_path) (AnswerTaken query)) (query_decides map query_path) (λ query.
+      then_decides (ConstraintsEnd query.query map constraints_path) (AnswerTaken query) (constraints_decide query.query map constraints_path) (λ constraints.
       record { once = answer_once query constraints }))
 
   pub one_answer : (one other : Result Report Fault) → CheckEnds map query_path constraints_path one → CheckEnds map query_path constraints_path other → IsDecided one → IsDecided other → all_yes_of one ≡ all_yes_of other
@@ -82,7 +82,7 @@ module _ (map : FileMap) (query_path constraints_path : List ℕ) where
       answers_decide.once (all_yes_of one) (all_yes_of other) (answer_ends one s) (answer_ends other t) (decided_answer one d) (decided_answer other e)
 
   -- inputs that are accepted have an answer
-  pub inputs_answer : (query : plain.Query) (constraints : List Constraint) (all_yes : Bool) → AreInputs map query_path constraints_path query constraints → IsTrue all_yes ↔ All (SomeIsFound query) constraints → AnswerEnds (Ok all_yes)
+  pub inputs_answer : (query : Ordered) (constraints : List Constraint) (all_yes : Bool) → AreInputs map query_path constraints_path query constraints → IsTrue all_yes ↔ All (SomeIsFound query.query) constraints → AnswerEnds (Ok all_yes)
   inputs_answer query constraints all_yes inputs is =
       record { value = query; first = inputs.is_query; next = record { value = constraints; first = inputs.are_constraints; next = is } }
 
@@ -104,14 +104,14 @@ module _ (map : FileMap) (query_path constraints_path : List ℕ) where
 -- ---- the run
 
 -- both inputs were accepted
-pub all_checked : (map : FileMap) (query_path constraints_path : List ℕ) (query : plain.Query) (constraints : List Constraint) (result : Result Report Fault)
-    → QueryEnds map query_path (Ok query) → ConstraintsEnd query map constraints_path (Ok constraints) → VerdictsTaken query constraints result → CheckEnds map query_path constraints_path result
+pub all_checked : (map : FileMap) (query_path constraints_path : List ℕ) (query : Ordered) (constraints : List Constraint) (result : Result Report Fault)
+    → QueryEnds map query_path (Ok query) → ConstraintsEnd query.query map constraints_path (Ok constraints) → VerdictsTaken query constraints result → CheckEnds map query_path constraints_path result
 all_checked map query_path constraints_path query constraints result q c r =
-    then_next (QueryEnds map query_path) (λ query. Then (ConstraintsEnd query map constraints_path) (VerdictsTaken query)) query result q
-    (then_next (ConstraintsEnd query map constraints_path) (VerdictsTaken query) constraints result c r)
+    then_next (QueryEnds map query_path) (λ query. Then (ConstraintsEnd query.query map constraints_path) (VerdictsTaken query)) query result q
+    (then_next (ConstraintsEnd query.query map constraints_path) (VerdictsTaken query) constraints result c r)
 
 -- the search reads no file
-pub verdicts_cause : (query : plain.Query) (constraints : List Constraint) (paths : List (List ℕ)) (before now : List ℕ → ℕ) (result : Result Report Fault) → NoneFell before now → VerdictsTaken query constraints result → ReadsHaveCause paths before now result
+pub verdicts_cause : (query : Ordered) (constraints : List Constraint) (paths : List (List ℕ)) (before now : List ℕ → ℕ) (result : Result Report Fault) → NoneFell before now → VerdictsTaken query constraints result → ReadsHaveCause paths before now result
 verdicts_cause query constraints paths before now (Ok r) later taken = record { later = later; failed = tt }
 verdicts_cause query constraints paths before now (Err NoMemory) later taken = record { later = later; failed = tt }
 verdicts_cause query constraints paths before now (Err (Refused refusal)) later taken = absurd taken

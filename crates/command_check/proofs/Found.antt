@@ -8,16 +8,16 @@ use Rattle.graph_spec.specs.DataGraph.{DataGraph, IsWellFormed}
 use Rattle.ddl_laws.specs.RoundTrip.{HasI64s}
 use Rattle.site_spec.specs.Site.{Scope}
 use Rattle.constraint_spec.specs.declared.Constraint.{Constraint}
-use Rattle.counterexample_spec.specs.First.{IsFirstBroken}
-use Rattle.refute_site.specs.Trying.{IsTried}
+use Rattle.order_spec.specs.Order.{Order}
+use Rattle.refute_site.specs.Tried.{IsFirstBrokenOver}
 use Rattle.constraint_prover.proofs.Zipped.{zip_more}
 use Rattle.command_check.specs.Told.{CheckAnswer, IsBrokenOver}
 use Rattle.command_check.specs.Written.{found_in}
 use Rattle.command_check.specs.declared.finding.CheckAnswer.{CheckAnswer as Kept}
 
 -- a candidate that is found is a counterexample
-pub no_holds : (q : Scope) (c : Constraint) (G : DataGraph) → IsWellFormed G → HasI64s G → IsFirstBroken (IsTried q) q c (Some G) → IsBrokenOver q c G
-no_holds q c G well integers found = record { well_formed = well; integers = integers; within = found.2.4.within; broken = found.2.5 }
+pub no_holds : (orders : List Order) (q : Scope) (c : Constraint) (G : DataGraph) → IsWellFormed G → HasI64s G → IsFirstBrokenOver orders q c (Some G) → IsBrokenOver orders q c G
+no_holds orders q c G well integers found = record { well_formed = well; integers = integers; within = found.2.4.within; broken = found.2.5 }
 
 -- the pair at a place
 pub zip_at : {A B : Type 0} (R : A → B → Type 0) (xs : List A) (ys : List B) (i : ℕ) (x : A) (y : B) → AllZip R xs ys → i < length xs → x ≡ get_or xs i x → y ≡ get_or ys i y → R x y

@@ -13,9 +13,9 @@ use Rattle.site_inputs.specs.declared.fault.Fault.{Fault}
 use Rattle.site_inputs.specs.declared.fault.Fault.TheVariants.{Refused, Unread, Faulty, NotFound, NoMemory}
 use Rattle.site_inputs.specs.Runs.{Then, IsDecided, Decides}
 use Rattle.site_inputs.specs.Sources.{GraphEnds, empty_building}
-use Rattle.site_inputs.specs.Sites.{QueryEnds}
+use Rattle.site_inputs.specs.Sites.{OverData, QueryOverEnds}
 use Rattle.site_inputs.proofs.Decided.{then_decides}
-use Rattle.site_inputs.proofs.DecidedInputs.{graph_decides, query_decides}
+use Rattle.site_inputs.proofs.DecidedInputs.{graph_decides, query_over_decides}
 use Rattle.command_check.specs.ConstraintFile.{ConstraintsEnd}
 use Rattle.command_check.specs.Ends.{ReportTaken, HereEnds}
 use Rattle.command_check.proofs.Once.{one_report, constraints_decide}
@@ -34,9 +34,13 @@ module _ (graph : DataGraph) (query : plain.Query) (constraints : List Constrain
   report_once one (Err NotFound) s t d e = absurd t
   report_once one (Err NoMemory) s t d e = absurd e
 
+-- the constraints, over a query and its data
+abbrev Reported : FileMap → List ℕ → OverData → Result Report Fault → Type 0
+Reported map path over = Then (ConstraintsEnd over.query.query map path) (ReportTaken over.graph over.query.query)
+
 pub here_decides : (map : FileMap) (sources : DataFiles) (query constraints : List ℕ) → Decides (HereEnds map sources query constraints)
 here_decides map sources query_path constraints_path =
-    then_decides (GraphEnds map empty_building sources) (λ graph. Then (QueryEnds map query_path) (λ query. Then (ConstraintsEnd query map constraints_path) (ReportTaken graph query))) (graph_decides map empty_building sources) (λ graph.
-    then_decides (QueryEnds map query_path) (λ query. Then (ConstraintsEnd query map constraints_path) (ReportTaken graph query)) (query_decides map query_path) (λ query.
-    then_decides (ConstraintsEnd query map constraints_path) (ReportTaken graph query) (constraints_decide query map constraints_path) (λ constraints.
-    record { once = report_once graph query constraints })))
+    then_decides (GraphEnds map empty_building sources) (λ graph. Then (QueryOverEnds map query_path graph) (λ over. Reported map constraints_path over)) (graph_decides map empty_building sources) (λ graph.
+    then_decides (QueryOverEnds map query_path graph) (λ over. Reported map constraints_path over) (query_over_decides map query_path graph) (λ over.
+    then_decides (ConstraintsEnd over.query.query map constraints_path) (ReportTaken over.graph over.query.query) (constraints_decide over.query.query map constraints_path) (λ constraints.
+    record { once = report_once over.graph over.query.query constraints })))

@@ -7,3 +7,4 @@ pub mod Growing
 pub mod Whole
 pub mod Alone
 pub mod Shown
+pub mod Ordering

@@ -2,7 +2,7 @@
 use Rattle.std.proofs.Common.{◌≡◌, ℕ, Bool, true, false, List, [], ◌∷◌, refl, ap}
 use Rattle.std.specs.Prelude.{nat_eq}
 use Rattle.graph_spec.specs.DataGraph.{DataGraph}
-use Rattle.query_spec.specs.Query.{Query}
+use Rattle.struql_orders.specs.Ordered.{Ordered}
 use Rattle.site_spec.specs.Site.{scope_of}
 use Rattle.constraint_spec.specs.declared.Constraint.{Constraint}
 use Rattle.sd_ddl.specs.Written.{graph_text}
@@ -15,7 +15,7 @@ back true [] = refl
 back false (b ∷ text) = ap (λ (r : List ℕ). b ∷ r) (back (nat_eq b 10) text)
 back true (b ∷ text) = ap (λ (r : List ℕ). b ∷ r) (back (nat_eq b 10) text)
 
-pub is_shown_broken : (q : Query) (number : ℕ) (c : Constraint) (G : DataGraph) → HoldsOfSites (scope_of q) c (no G) → IsShownBroken q number c (lines_of q number c (no G))
+pub is_shown_broken : (q : Ordered) (number : ℕ) (c : Constraint) (G : DataGraph) → HoldsOfSites q.orders (scope_of q.query) c (no G) → IsShownBroken q number c (lines_of q.query number c (no G))
 is_shown_broken q number c G h = record {
   shown = indented true (graph_text G);
   graph = G;

@@ -12,7 +12,7 @@ use Rattle.site_inputs.specs.declared.fault.Fault.{Fault}
 use Rattle.site_inputs.specs.declared.fault.Fault.TheVariants.{Refused, Unread, Faulty, NotFound, NoMemory}
 use Rattle.site_inputs.specs.Runs.{Then, ReadsHaveCause}
 use Rattle.site_inputs.specs.Sources.{GraphEnds, empty_building}
-use Rattle.site_inputs.specs.Sites.{QueryEnds}
+use Rattle.site_inputs.specs.Sites.{OverData, QueryOverEnds}
 use Rattle.command_check.specs.ConstraintFile.{ConstraintsEnd}
 use Rattle.command_check.specs.Ends.{ReportTaken, HereEnds}
 
@@ -20,21 +20,34 @@ pub then_next : {A B : Type 0} (First : Result A Fault → Type 0) (Next : A →
 then_next First Next a (Ok b) first next = record { value = a; first = first; next = next }
 then_next First Next a (Err fault) first next = inr record { value = a; first = first; next = next }
 
+-- the constraints, over a query and its data
+abbrev Reported : FileMap → List ℕ → OverData → Result Report Fault → Type 0
+Reported map path over = Then (ConstraintsEnd over.query.query map path) (ReportTaken over.graph over.query.query)
+
 -- all inputs were accepted
-pub all_taken : (map : FileMap) (sources : DataFiles) (query_path constraints_path : List ℕ) (graph : DataGraph) (query : plain.Query) (constraints : List Constraint) (result : Result Report Fault)
-    → GraphEnds map empty_building sources (Ok graph) → QueryEnds map query_path (Ok query) → ConstraintsEnd query map constraints_path (Ok constraints) → ReportTaken graph query constraints result
+pub all_taken : (map : FileMap) (sources : DataFiles) (query_path constraints_path : List ℕ) (graph : DataGraph) (over : OverData) (constraints : List Constraint) (result : Result Report Fault)
+    → GraphEnds map empty_building sources (Ok graph) → QueryOverEnds map query_path graph (Ok over) → ConstraintsEnd over.query.query map constraints_path (Ok constraints) → ReportTaken over.graph over.query.query constraints result
     → HereEnds map sources query_path constraints_path result
-all_taken map sources query_path constraints_path graph query constraints result g q c r =
-    then_next (GraphEnds map empty_building sources) (λ graph. Then (QueryEnds map query_path) (λ query. Then (ConstraintsEnd query map constraints_path) (ReportTaken graph query))) graph result g
-    (then_next (QueryEnds map query_path) (λ query. Then (ConstraintsEnd query map constraints_path) (ReportTaken graph query)) query result q
-    (then_next (ConstraintsEnd query map constraints_path) (ReportTaken graph query) constraints result c r))
+all_taken map sources query_path constraints_path graph over constraints result g q c r =
+    then_next (GraphEnds map empty_building sources) (λ graph. Then (QueryOverEnds map query_path graph) (λ over. Reported map constraints_path over)) graph result g
+    (then_next (QueryOverEnds map query_path graph) (λ over. Reported map constraints_path over) over result q
+    (then_next (ConstraintsEnd over.query.query map constraints_path) (ReportTaken over.graph over.query.query) constraints result c r))
 
 -- a fault of the constraints, after data and a query
-pub constraints_fault : (map : FileMap) (sources : DataFiles) (query_path constraints_path : List ℕ) (graph : DataGraph) (query : plain.Query) (fault : Fault)
-    → GraphEnds map empty_building sources (Ok graph) → QueryEnds map query_path (Ok query) → ConstraintsEnd query map constraints_path (Err fault)
+pub constraints_fault : (map : FileMap) (sources : DataFiles) (query_path constraints_path : List ℕ) (graph : DataGraph) (over : OverData) (fault : Fault)
+    → GraphEnds map empty_building sources (Ok graph) → QueryOverEnds map query_path graph (Ok over) → ConstraintsEnd over.query.query map constraints_path (Err fault)
     → HereEnds map sources query_path constraints_path (Err fault)
-constraints_fault map sources query_path constraints_path graph query fault g q refused =
-    inr (record { value = graph; first = g; next = inr (record { value = query; first = q; next = inl refused }) })
+constraints_fault map sources query_path constraints_path graph over fault g q refused =
+    inr (record { value = graph; first = g; next = inr (record { value = over; first = q; next = inl refused }) })
+
+-- memory that ran out after a query was read over its data
+no_room : (map : FileMap) (path : List ℕ) (graph : DataGraph) (over : OverData) → QueryOverEnds map path graph (Ok over) → QueryOverEnds map path graph (Err NoMemory)
+no_room map path graph over h = inr (record { value = h.value; first = h.first; next = tt })
+
+pub scoping_fault : (map : FileMap) (sources : DataFiles) (query_path constraints_path : List ℕ) (graph : DataGraph) (over : OverData)
+    → GraphEnds map empty_building sources (Ok graph) → QueryOverEnds map query_path graph (Ok over) → HereEnds map sources query_path constraints_path (Err NoMemory)
+scoping_fault map sources query_path constraints_path graph over g q =
+    inr (record { value = graph; first = g; next = inl (no_room map query_path graph over q) })
 
 -- testing constraints reads no file
 pub report_cause : (graph : DataGraph) (query : plain.Query) (constraints : List Constraint) (paths : List (List ℕ)) (before now : List ℕ → ℕ) (result : Result Report Fault) → NoneFell before now → ReportTaken graph query constraints result → ReadsHaveCause paths before now result

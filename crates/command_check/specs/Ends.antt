@@ -13,7 +13,7 @@ use Rattle.site_inputs.specs.declared.fault.Fault.{Fault}
 use Rattle.site_inputs.specs.declared.fault.Fault.TheVariants.{NoMemory}
 use Rattle.site_inputs.specs.Runs.{Then}
 use Rattle.site_inputs.specs.Sources.{GraphEnds, empty_building}
-use Rattle.site_inputs.specs.Sites.{QueryEnds}
+use Rattle.site_inputs.specs.Sites.{QueryOverEnds}
 use Rattle.command_check.specs.ConstraintFile.{ConstraintsEnd}
 
 -- How testing constraints in a query's site over a graph ends: with their report.
@@ -24,10 +24,12 @@ ReportTaken graph query constraints (Ok r) =
 ReportTaken graph query constraints (Err NoMemory) = ⊤
 ReportTaken graph query constraints (Err fault) = ⊥
 
--- How the command ends: with the report of the file's constraints over the graph that all data files state.
+-- How the command ends: with the report of the file's constraints over the graph that the query's ORDERs make of what all
+-- data files state.
 abbrev pub HereEnds : FileMap → (sources : DataFiles) (query constraints : List ℕ)
     → Result Report Fault → Type 0
 HereEnds map sources query_path constraints_path =
     Then (GraphEnds map empty_building sources)
-    (λ graph. Then (QueryEnds map query_path)
-    (λ query. Then (ConstraintsEnd query map constraints_path) (ReportTaken graph query)))
+    (λ graph. Then (QueryOverEnds map query_path graph)
+    (λ over. Then (ConstraintsEnd over.query.query map constraints_path)
+    (ReportTaken over.graph over.query.query)))

@@ -4,3 +4,4 @@ pub mod Ends
 pub mod Law
 pub mod Told
 pub mod Written
+pub mod Ordered

@@ -7,14 +7,15 @@ use Rattle.std.specs.Fmt.{decimal}
 use Rattle.std.specs.List.{AllZip, list_all}
 use Rattle.graph_spec.specs.DataGraph.{DataGraph, IsWellFormed}
 use Rattle.query_spec.specs.Query.{Query}
+use Rattle.order_spec.specs.Order.{Order}
+use Rattle.struql_orders.specs.Ordered.{Ordered}
 use Rattle.site_spec.specs.Site.{Scope, scope_of}
 use Rattle.constraint_spec.specs.declared.Constraint.{Constraint}
 use Rattle.constraint_spec.specs.Certificate.{Certificate}
 use Rattle.constraint_spec.specs.Meets.{Meets}
 use Rattle.constraint_prover.specs.Verdicts.{IsFound}
-use Rattle.counterexample_spec.specs.First.{IsFirstBroken}
 use Rattle.sd_graph.specs.ProgramLimits.{IsWithinProgram}
-use Rattle.refute_site.specs.Trying.{IsTried}
+use Rattle.refute_site.specs.Tried.{MeetsOrdered, IsFirstBrokenOver}
 use Rattle.sd_ddl.specs.Written.{graph_text}
 use Rattle.ddl_laws.specs.RoundTrip.{HasI64s, IsReadAgain}
 use Rattle.certificate_text.specs.Lines.{yes_text, unknown_text}
@@ -33,24 +34,25 @@ NoneIsFound q c = (x : Certificate) → IsFound q c x → ⊥
 
 -- A certificate of the constraint that is found. If none is, the first candidate that is tried and whose
 -- site breaks it, and unknown if there is no such candidate.
-abbrev pub IsCheckAnswer : Scope → Constraint → CheckAnswer → Type 0
-IsCheckAnswer q c (yes x) = IsFound q c x
-IsCheckAnswer q c (no G) = NoneIsFound q c × IsFirstBroken (IsTried q) q c (Some G)
-IsCheckAnswer q c unknown = NoneIsFound q c × IsFirstBroken (IsTried q) q c None
+abbrev pub IsCheckAnswer : List Order → Scope → Constraint → CheckAnswer → Type 0
+IsCheckAnswer orders q c (yes x) = IsFound q c x
+IsCheckAnswer orders q c (no G) = NoneIsFound q c × IsFirstBrokenOver orders q c (Some G)
+IsCheckAnswer orders q c unknown = NoneIsFound q c × IsFirstBrokenOver orders q c None
 
--- a data graph as the program holds it, over which the query's site doesn't meet the constraint
-pub record IsBrokenOver (q : Scope) (c : Constraint) (G : DataGraph) : Type 0 where
+-- a data graph as the program holds it: the query's site over the one that the ORDERs make of it doesn't meet the constraint
+pub record IsBrokenOver (orders : List Order) (q : Scope) (c : Constraint) (G : DataGraph)
+    : Type 0 where
   pub well_formed : IsWellFormed G
   pub integers : HasI64s G
   pub within : IsWithinProgram G
-  pub broken : ¬ Meets G q c
+  pub broken : ¬ MeetsOrdered orders G q c
 
 -- At a yes, the query's site over every data graph meets the constraint. At a no, its site over the
--- graph that is found doesn't.
-abbrev pub HoldsOfSites : Scope → Constraint → CheckAnswer → Type 0
-HoldsOfSites q c (yes x) = (G : DataGraph) → Meets G q c
-HoldsOfSites q c (no G) = IsBrokenOver q c G
-HoldsOfSites q c unknown = ⊤
+-- graph that the ORDERs make of the one that is found doesn't.
+abbrev pub HoldsOfSites : List Order → Scope → Constraint → CheckAnswer → Type 0
+HoldsOfSites orders q c (yes x) = (G : DataGraph) → Meets G q c
+HoldsOfSites orders q c (no G) = IsBrokenOver orders q c G
+HoldsOfSites orders q c unknown = ⊤
 
 -- whether it is a certificate
 abbrev pub is_yes : CheckAnswer → Bool
@@ -84,17 +86,17 @@ lines_of q number c (yes x) = yes_text q number c x
 lines_of q number c (no G) = no_text number G
 lines_of q number c unknown = unknown_text number
 
--- The lines are `K no` and, two spaces before each of its lines, a data text of a graph over which the
--- query's site doesn't meet the constraint. The graph is within the program's limits, and its text, read
+-- The lines are `K no` and, two spaces before each of its lines, a data text of a graph: the query's
+-- site over the one that its ORDERs make of it doesn't meet the constraint. The graph is within the program's limits, and its text, read
 -- into an empty builder with room, gives it.
-pub record IsShownBroken (q : Query) (number : ℕ) (c : Constraint) (lines : List ℕ) : Type 0 where
+pub record IsShownBroken (q : Ordered) (number : ℕ) (c : Constraint) (lines : List ℕ) : Type 0 where
   pub shown : List ℕ
   pub graph : DataGraph
   pub below : lines ≡ decimal number ++ codes " no\n" ++ shown
   pub is_text : unindented true shown ≡ graph_text graph
   pub is_read : IsReadAgain graph
   pub within : IsWithinProgram graph
-  pub broken : ¬ Meets graph (scope_of q) c
+  pub broken : ¬ MeetsOrdered q.orders graph (scope_of q.query) c
 
 -- the lines of these constraints, the first of which has this number
 abbrev pub finding_lines : Query → ℕ → List Constraint → List CheckAnswer → List ℕ
@@ -106,12 +108,12 @@ finding_lines q number cs fs = []
 
 -- The text tells of each of the constraints, in order, what is found of it, and `all_yes` says whether
 -- a certificate of each is found. What is found holds of the query's sites.
-pub record AreTold (q : Query) (constraints : List Constraint) (text : List ℕ) (all_yes : Bool)
+pub record AreTold (q : Ordered) (constraints : List Constraint) (text : List ℕ) (all_yes : Bool)
     : Type 0 where
   pub findings : List CheckAnswer
-  pub exact : AllZip (IsCheckAnswer (scope_of q)) constraints findings
-  pub holds : AllZip (HoldsOfSites (scope_of q)) constraints findings
-  pub told : text ≡ finding_lines q 1 constraints findings
+  pub exact : AllZip (IsCheckAnswer q.orders (scope_of q.query)) constraints findings
+  pub holds : AllZip (HoldsOfSites q.orders (scope_of q.query)) constraints findings
+  pub told : text ≡ finding_lines q.query 1 constraints findings
   pub all : all_yes ≡ list_all is_yes findings
 
 -- some certificate of the constraint is found

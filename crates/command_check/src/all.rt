@@ -5,14 +5,14 @@ ghost use Rattle.command_spec.specs.Inputs.{check_paths};
 ghost use Rattle.site_inputs.specs.Reads.{Reads};
 ghost use Rattle.site_inputs.specs.Runs.{ReadsHaveCause};
 ghost use Rattle.command_check.specs.CheckEnds.{VerdictsTaken, CheckEnds};
+ghost use Rattle.command_check.specs.Ordered.{scoped_value};
 
 use crate::constraint_file::load_constraints;
-use crate::query_file::load_scoped_query;
+use crate::query_file::{OrderedScoped, load_scoped_query};
 use crate::site_oracle::SiteOracle;
 use crate::verdicts::verdicts_of;
 use constraint_spec::Constraint;
 use edge_io::Files;
-use query_scoping::ScopedQuery;
 use run_report::Report;
 use sd_value::Str;
 use site_inputs::Fault;
@@ -20,13 +20,13 @@ use std::alloc::Global;
 
 fn verdicts_on(
     alloc: Global,
-    query: &ScopedQuery,
+    query: &OrderedScoped,
     constraints: &[Constraint],
 ) -> Result<Report, Fault>
-    ensures { VerdictsTaken query.now constraints.now result }
+    ensures { VerdictsTaken (scoped_value query.now) constraints.now result }
 {
-    let mut trial = SiteOracle::of(query);
-    let verdicts = verdicts_of(alloc, query, constraints, &mut trial)?;
+    let mut trial = SiteOracle::of(&query.scoped, &query.orders);
+    let verdicts = verdicts_of(alloc, &query.scoped, constraints, &mut trial)?;
     Ok(Report {
         text: verdicts.text,
         passed: verdicts.all_yes,
@@ -55,6 +55,6 @@ pub fn check_all<F: Files>(
         (λ map. CheckEnds map query.now constraints.now result) }
 {
     let query = load_scoped_query(alloc, files, query)?;
-    let constraints = load_constraints(alloc, files, &query, constraints)?;
+    let constraints = load_constraints(alloc, files, &query.scoped, constraints)?;
     verdicts_on(alloc, &query, constraints.as_slice())
 }

@@ -39,10 +39,11 @@ fn find<'a, T: Oracle>(
     requires holds { HoldsOverAll (scope_of query.now) constraint.now verdict.now }
     ensures own { T.Own trial.new }
     ensures scope { T.scope trial.new ≡ T.scope trial.old }
+    ensures orders { T.orders trial.new ≡ T.orders trial.old }
     ensures exact { IfOk result (λ f.
-        IsCheckAnswer (scope_of query.now) constraint.now (found_in f)) }
+        IsCheckAnswer (T.orders trial.old) (scope_of query.now) constraint.now (found_in f)) }
     ensures holds { IfOk result
-        (λ f. HoldsOfSites (scope_of query.now) constraint.now (found_in f)) }
+        (λ f. HoldsOfSites (T.orders trial.old) (scope_of query.now) constraint.now (found_in f)) }
 {
     match verdict {
         Verdict::Yes(certificate) => Ok(CheckAnswer::Yes(certificate)),
@@ -72,10 +73,13 @@ pub(crate) fn find_all<'a, T: Oracle>(
     requires holds { AllZip (HoldsOverAll (scope_of query.now)) constraints.now verdicts.now }
     ensures own { T.Own trial.new }
     ensures scope { T.scope trial.new ≡ T.scope trial.old }
+    ensures orders { T.orders trial.new ≡ T.orders trial.old }
     ensures exact { IfOk result (λ found.
-        AllZip (IsCheckAnswer (scope_of query.now)) constraints.now (map found_in found.items)) }
+        AllZip (IsCheckAnswer (T.orders trial.old) (scope_of query.now))
+        constraints.now (map found_in found.items)) }
     ensures holds { IfOk result (λ found.
-        AllZip (HoldsOfSites (scope_of query.now)) constraints.now (map found_in found.items)) }
+        AllZip (HoldsOfSites (T.orders trial.old) (scope_of query.now))
+        constraints.now (map found_in found.items)) }
 {
     let mut found = Vec::new(alloc);
     for i in 0..constraints.len() {

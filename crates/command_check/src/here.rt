@@ -7,7 +7,6 @@ ghost use Rattle.site_inputs.specs.Runs.{ReadsHaveCause};
 ghost use Rattle.command_check.specs.Ends.{ReportTaken, HereEnds};
 
 use crate::constraint_file::load_constraints;
-use crate::query_file::load_scoped_query;
 use bindings::StoreAsker;
 use command_spec::DataFiles;
 use constraint_report::report_of;
@@ -18,7 +17,7 @@ use query_scoping::ScopedQuery;
 use run_report::Report;
 use sd_graph::Graph;
 use sd_value::Str;
-use site_inputs::{Fault, load_graph};
+use site_inputs::{Fault, load_graph, load_query_over};
 use std::alloc::Global;
 
 fn report_over(
@@ -57,7 +56,8 @@ pub fn check_here<F: Files>(
         (λ map. HereEnds map sources.now query.now constraints.now result) }
 {
     let graph = load_graph(alloc, files, sources)?;
-    let query = load_scoped_query(alloc, files, query)?;
+    let over = load_query_over(alloc, files, query, graph)?;
+    let query = ScopedQuery::of(alloc, over.query)?;
     let constraints = load_constraints(alloc, files, &query, constraints)?;
-    report_over(alloc, graph, &query, constraints.as_slice())
+    report_over(alloc, over.graph, &query, constraints.as_slice())
 }

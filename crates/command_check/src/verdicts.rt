@@ -40,7 +40,7 @@ fn are_all_yes(findings: &[CheckAnswer]) -> bool
 /// For each of the constraints, in order and with its number from 1: `K yes` with the lines of a
 /// certificate if one is found; else `K no` with the text of the first of its candidates within the program's limits over
 /// which the query's site breaks it, each line after two spaces; and `K unknown` where there is neither.
-/// And whether all of them are answered yes. The trial is one of the query.
+/// And whether all of them are answered yes. The trial is one of the query, over graphs in the order of its ORDERs.
 /// # Errors
 /// Out of memory.
 pub fn verdicts_of<T: Oracle>(
@@ -53,7 +53,10 @@ pub fn verdicts_of<T: Oracle>(
     requires scope { T.scope trial.old ≡ scope_of query.now }
     ensures own { T.Own trial.new }
     ensures scope { T.scope trial.new ≡ T.scope trial.old }
-    ensures told { IfOk result (λ r. AreTold query.now constraints.now r.text r.all_yes) }
+    ensures orders { T.orders trial.new ≡ T.orders trial.old }
+    ensures told { IfOk result (λ r. AreTold
+        (record { orders = T.orders trial.old; query = query.now })
+        constraints.now r.text r.all_yes) }
 {
     let all_verdicts = prove_all(alloc, query, constraints)?;
     let verdicts = all_verdicts.as_slice();

@@ -8,10 +8,10 @@ use Rattle.command_spec.specs.declared.ExplainCommand.{ExplainCommand}
 use Rattle.site_inputs.specs.declared.fault.Fault.{Fault}
 use Rattle.site_inputs.specs.declared.fault.Fault.TheVariants.{Refused, Unread, Faulty, NotFound, NoMemory}
 use Rattle.site_inputs.specs.Runs.{Then, IsDecided, Decides}
-use Rattle.site_inputs.specs.Sites.{QueryEnds}
+use Rattle.site_inputs.specs.Sites.{QueryOverEnds}
 use Rattle.site_inputs.specs.Sources.{GraphEnds, empty_building}
 use Rattle.site_inputs.proofs.Decided.{then_decides}
-use Rattle.site_inputs.proofs.DecidedInputs.{graph_decides, query_decides}
+use Rattle.site_inputs.proofs.DecidedInputs.{graph_decides, query_over_decides}
 use Rattle.command_explain.specs.Ends.{ExplainTaken, ExplainEnds}
 use Rattle.command_explain.proofs.Once.{one_explanation}
 
@@ -31,5 +31,6 @@ module _ (graph : DataGraph) (query : plain.Query) where
 
 pub explain_decides : (map : FileMap) (command : ExplainCommand) → Decides (ExplainEnds map command)
 explain_decides map command =
-    then_decides (GraphEnds map empty_building command.sources) (λ graph. Then (QueryEnds map command.query) (ExplainTaken graph)) (graph_decides map empty_building command.sources)
-    (λ graph. then_decides (QueryEnds map command.query) (ExplainTaken graph) (query_decides map command.query) (λ query. record { once = plans_once graph query }))
+    then_decides (GraphEnds map empty_building command.sources) (λ graph. Then (QueryOverEnds map command.query graph) (λ over. ExplainTaken over.graph over.query.query)) (graph_decides map empty_building command.sources)
+    (λ graph. then_decides (QueryOverEnds map command.query graph) (λ over. ExplainTaken over.graph over.query.query) (query_over_decides map command.query graph)
+    (λ over. record { once = plans_once over.graph over.query.query }))

@@ -9,7 +9,7 @@ use Rattle.site_inputs.specs.declared.fault.Fault.{Fault}
 use Rattle.site_inputs.specs.declared.fault.Fault.TheVariants.{NoMemory}
 use Rattle.site_inputs.specs.Runs.{Then}
 use Rattle.site_inputs.specs.Sources.{GraphEnds, empty_building}
-use Rattle.site_inputs.specs.Sites.{QueryEnds}
+use Rattle.site_inputs.specs.Sites.{QueryOverEnds}
 
 -- How the plans of a query's blocks over a graph end: with their text.
 abbrev pub ExplainTaken : DataGraph → plain.Query → Result (List ℕ) Fault → Type 0
@@ -17,8 +17,9 @@ ExplainTaken graph query (Ok text) = IsExplained graph query text
 ExplainTaken graph query (Err NoMemory) = ⊤
 ExplainTaken graph query (Err fault) = ⊥
 
--- How the command ends: with the plans over the graph that all data files state.
+-- How the command ends: with the plans over the graph that the ORDERs of the query make of what all data files state.
 abbrev pub ExplainEnds : FileMap → ExplainCommand → Result (List ℕ) Fault → Type 0
 ExplainEnds map command =
     Then (GraphEnds map empty_building command.sources)
-    (λ graph. Then (QueryEnds map command.query) (ExplainTaken graph))
+    (λ graph. Then (QueryOverEnds map command.query graph)
+    (λ over. ExplainTaken over.graph over.query.query))

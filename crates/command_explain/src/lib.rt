@@ -20,7 +20,7 @@ pub use laws::{a_query_has_one_explanation, explanations_are_decided};
 pub use plans::plans_text;
 use sd_graph::Graph;
 use sd_value::Str;
-use site_inputs::{Fault, load_graph, load_query};
+use site_inputs::{Fault, load_graph, load_query_over};
 use std::alloc::Global;
 use struql_check::Checked;
 
@@ -49,6 +49,6 @@ pub fn explain<F: Files>(
         (λ map. ExplainEnds map command.now result) }
 {
     let graph = load_graph(alloc, files, &command.sources)?;
-    let query = load_query(alloc, files, &command.query)?;
-    plans_over(alloc, graph, &query)
+    let over = load_query_over(alloc, files, &command.query, graph)?;
+    plans_over(alloc, over.graph, &over.query)
 }

@@ -30,7 +30,7 @@ findings_as G graph s scope templates l further cs claims found shown graphs sco
     (subst (λ (x : List Finding). AreFindings (IsMistake G s templates l) cs x) (sym is) h))))
 
 pub whole_report : (graph : DataGraph) (query : plain.Query) (templates : TemplateFile) (texts : SiteTexts) (trees : SiteTrees) (in_query in_templates : List Finding) (result : Result Report NoMemory) → AreTrees texts trees
-    → HasFindings graph query templates trees (query_claims trees.query) in_query → HasFindings graph query templates trees (template_claims trees.items) in_templates
+    → HasFindings graph query templates trees (query_claims trees.query.query) in_query → HasFindings graph query templates trees (template_claims trees.items) in_templates
     → IfOk result (λ r. r.text ≡ flat_map (finding_line texts.query_path) in_query ++ flat_map (finding_line texts.templates_path) in_templates)
     → IfOk result (λ r. r.passed ≡ are_notes (in_query ++ in_templates)) → IfOk result (λ r. IsLintReport graph query templates texts r.text r.passed)
 whole_report graph query templates texts trees in_query in_templates (Ok r) spelled of_query of_templates lines clean = record {

@@ -10,7 +10,7 @@ use Rattle.token_reader.specs.Gives.{IsReal}
 use Rattle.token_reader.proofs.Tokens.{one_token_list}
 use Rattle.graph_spec.specs.DataGraph.{DataGraph}
 use Rattle.query_spec.specs.Query as plain
-use Rattle.struql_ast.specs.Written as written
+use Rattle.struql_orders.specs.Ordered.{OrderedQuery}
 use Rattle.struql_parse.specs.Blocks.{query_within, query_spelled}
 use Rattle.struql_parse.specs.Reading.{read_query}
 use Rattle.struql_parse.proofs.QueryParts.{query_part}
@@ -53,7 +53,7 @@ module _ (P : Asked → Type 0) where
 same_tokens : (bytes : List ℕ) (tokens others : List Token) → IsTextOrFault text_limit bytes (Ok tokens) → IsTextOrFault text_limit bytes (Ok others) → tokens ≡ others
 same_tokens bytes tokens others l m = let both : Ok tokens ≡ Ok others = one_token_list text_limit bytes (Ok tokens) (Ok others) l m in cc
 
-same_query : (bytes : List ℕ) (q r : written.Query) → Spells text_limit bytes q → Spells text_limit bytes r → q ≡ r
+same_query : (bytes : List ℕ) (q r : OrderedQuery) → Spells text_limit bytes q → Spells text_limit bytes r → q ≡ r
 same_query bytes q r h k =
     one_value IsReal query_within query_spelled read_query query_part.reads h.0 q r h.2 (subst (λ (x : List Token). query_within x r) (same_tokens bytes k.0 h.0 k.1 h.1) k.2)
 
@@ -67,7 +67,7 @@ same_trees texts t u h k =
 
 module _ (graph : DataGraph) (query : plain.Query) (templates : TemplateFile) (texts : SiteTexts) where
   abbrev InQuery : SiteTrees → List Finding → Type 0
-  InQuery t = HasFindings graph query templates t (query_claims t.query)
+  InQuery t = HasFindings graph query templates t (query_claims t.query.query)
 
   abbrev InTemplates : SiteTrees → List Finding → Type 0
   InTemplates t = HasFindings graph query templates t (template_claims t.items)
@@ -78,7 +78,7 @@ module _ (graph : DataGraph) (query : plain.Query) (templates : TemplateFile) (t
   pub one_report : (r s : Report) → IsLintReport graph query templates texts r.text r.passed → IsLintReport graph query templates texts s.text s.passed → r ≡ s
   one_report r s h k =
       let trees : k.trees ≡ h.trees = same_trees texts k.trees h.trees k.spelled h.spelled in
-      let in_query : h.in_query ≡ k.in_query = same_findings _ (query_claims h.trees.query) h.in_query k.in_query h.of_query (subst (λ (t : SiteTrees). InQuery t k.in_query) trees k.of_query) in
+      let in_query : h.in_query ≡ k.in_query = same_findings _ (query_claims h.trees.query.query) h.in_query k.in_query h.of_query (subst (λ (t : SiteTrees). InQuery t k.in_query) trees k.of_query) in
       let in_templates : h.in_templates ≡ k.in_templates = same_findings _ (template_claims h.trees.items) h.in_templates k.in_templates h.of_templates (subst (λ (t : SiteTrees). InTemplates t k.in_templates) trees k.of_templates) in
       let text : r.text ≡ s.text = h.lines ∙ (ap (λ (fs : List Finding). Lines fs h.in_templates) in_query ∙ (ap (Lines k.in_query) in_templates ∙ sym k.lines)) in
       let all_findings : k.in_query ++ k.in_templates ≡ h.in_query ++ h.in_templates = sym (ap (λ (fs : List Finding). fs ++ h.in_templates) in_query ∙ ap (λ (fs : List Finding). k.in_query ++ fs) in_templates) in

@@ -7,7 +7,7 @@ use Rattle.command_spec.specs.declared.DataFiles.{DataFiles}
 use Rattle.graph_spec.specs.DataGraph.{DataGraph}
 use Rattle.query_spec.specs.Query as plain
 use Rattle.site_spec.specs.Site.{scope_of}
-use Rattle.struql_ast.specs.Written as written
+use Rattle.struql_orders.specs.Ordered.{OrderedQuery}
 use Rattle.query_reader.specs.Reads.{Spells}
 use Rattle.template_items.specs.declared.item.Item.{Item}
 use Rattle.template_items.specs.Scanning.{AreItems}
@@ -23,7 +23,7 @@ use Rattle.site_inputs.specs.declared.fault.Fault.{Fault}
 use Rattle.site_inputs.specs.declared.fault.Fault.TheVariants.{NoMemory}
 use Rattle.site_inputs.specs.Runs.{Then, FileEnds}
 use Rattle.site_inputs.specs.Sources.{GraphEnds, empty_building}
-use Rattle.site_inputs.specs.Sites.{QueryTaken, TemplatesTaken}
+use Rattle.site_inputs.specs.Sites.{QueryTaken, OverData, OrdersTaken, TemplatesTaken}
 use Rattle.command_lint.specs.Lines.{finding_line}
 
 -- a site's texts: the bytes of its query and of its templates, each with its file's path
@@ -33,9 +33,9 @@ pub record SiteTexts : Type 0 where
   pub templates_path : List ℕ
   pub templates : List ℕ
 
--- what the texts are made of: the query with its places, and the items of the templates
+-- what the texts are made of: the query with its ORDERs and its places, and the items of the templates
 pub record SiteTrees : Type 0 where
-  pub query : written.Query
+  pub query : OrderedQuery
   pub items : List Item
 
 -- the texts spell these
@@ -55,7 +55,7 @@ module _ (graph : DataGraph) (query : plain.Query) (templates : TemplateFile) wh
     pub trees : SiteTrees
     pub spelled : AreTrees texts trees
     pub in_query : List Finding
-    pub of_query : HasFindings trees (query_claims trees.query) in_query
+    pub of_query : HasFindings trees (query_claims trees.query.query) in_query
     pub in_templates : List Finding
     pub of_templates : HasFindings trees (template_claims trees.items) in_templates
     pub lines : text
@@ -78,15 +78,19 @@ texts_of query_path query templates_path templates = record {
   templates = templates;
 }
 
+-- How a query's text ends over data: with the checked query and the graph that its ORDERs make of them, or refused.
+abbrev pub QueryOverTaken : (path bytes : List ℕ) → DataGraph → Result OverData Fault → Type 0
+QueryOverTaken path bytes graph = Then (QueryTaken path bytes) (OrdersTaken path graph)
+
 -- How the command ends: the data, the query and the templates are read as a build reads them, and
--- then the texts are judged.
+-- then the texts are judged, over the data that the query is asked over.
 abbrev pub LintEnds : FileMap → (sources : DataFiles) → (query templates : List ℕ)
     → Result Report Fault → Type 0
 LintEnds map sources query_path templates_path =
     Then (GraphEnds map empty_building sources)
     (λ graph. Then (FileEnds text_limit map query_path)
-    (λ query_bytes. Then (QueryTaken query_path query_bytes)
-    (λ query. Then (FileEnds text_limit map templates_path)
+    (λ query_bytes. Then (QueryOverTaken query_path query_bytes graph)
+    (λ over. Then (FileEnds text_limit map templates_path)
     (λ template_bytes. Then (TemplatesTaken templates_path template_bytes)
-    (λ templates. LintTaken graph query templates
+    (λ templates. LintTaken over.graph over.query.query templates
     (texts_of query_path query_bytes templates_path template_bytes))))))

@@ -14,7 +14,7 @@ mod lines;
 mod link_answers;
 mod texts;
 
-use crate::asked::{take_asked, take_item_text};
+use crate::asked::{AskedQuery, take_asked, take_item_text};
 use crate::texts::report_of;
 use command_spec::{DataFiles, TEXT_LIMIT};
 use edge_io::Files;
@@ -47,9 +47,10 @@ pub fn lint<F: Files>(
 {
     let graph = load_graph(alloc, files, sources)?;
     let query_bytes = read_file(alloc, files, query_path, TEXT_LIMIT)?;
-    let query = take_asked(alloc, query_path, query_bytes.bytes())?;
+    let read = take_asked(alloc, query_path, query_bytes.bytes(), graph)?;
+    let AskedQuery { over, asked } = read;
     let template_bytes = read_file(alloc, files, templates_path, TEXT_LIMIT)?;
     let templates = take_item_text(alloc, templates_path, template_bytes.bytes())?;
-    let report = report_of(alloc, graph, query_path, &query, templates_path, &templates)?;
+    let report = report_of(alloc, over, query_path, &asked, templates_path, &templates)?;
     Ok(report)
 }

@@ -13,17 +13,17 @@ ghost use Rattle.command_lint.specs.Lines.{finding_line};
 ghost use Rattle.command_lint.specs.Asks.{Asks};
 ghost use Rattle.command_lint.specs.Ends.{IsLintReport, texts_of};
 
-use crate::asked::{AskedQuery, ItemTemplates};
+use crate::asked::ItemTemplates;
 use crate::lines::push_lines;
 use crate::link_answers::QueryLinks;
 use bindings::StoreAsker;
 use index_store::IndexStore;
-use lint_spec::Finding;
+use lint_spec::{Claim, Finding};
 use query_blocks::QueryBlocks;
 use query_scoping::scopes;
 use run_report::Report;
-use sd_graph::Graph;
 use sd_value::{NoMemory, Str};
+use site_inputs::QueryOver;
 use site_lint::{
     LintedSite, blocks_without_rows, findings_of, has_active_end, is_note, links_of, names_of,
 };
@@ -74,7 +74,7 @@ fn found_in<'a>(
     blocks: &'a QueryBlocks,
     without_rows: &'a [bool],
     has_active_end: bool,
-    query: &AskedQuery,
+    asked: &[Claim],
     text: &'a ItemTemplates,
 ) -> Result<Found, NoMemory>
     requires within { All (EndsWithin text_end) text.now.items.items }
@@ -83,7 +83,7 @@ fn found_in<'a>(
     requires ends { has_active_end ≡ has_active_end_of store.now.edges }
     ensures query { IfOk result (λ f. AreFindings (IsMistake store.now (scope_of blocks.now)
         (file_of text.now.templates) (further_of text.now.items.items))
-        query.now.asked.items f.in_query.items) }
+        asked.now f.in_query.items) }
     ensures templates { IfOk result (λ f. AreFindings (IsMistake store.now (scope_of blocks.now)
         (file_of text.now.templates) (further_of text.now.items.items))
         (template_claims text.now.items.items) f.in_templates.items) }
@@ -104,35 +104,36 @@ fn found_in<'a>(
         without_rows,
         has_active_end,
     };
-    let in_query = findings_of(alloc, &site, &query.asked)?;
-    let asked = claims_of_templates(alloc, items)?;
-    let in_templates = findings_of(alloc, &site, &asked)?;
+    let in_query = findings_of(alloc, &site, asked)?;
+    let claims = claims_of_templates(alloc, items)?;
+    let in_templates = findings_of(alloc, &site, &claims)?;
     Ok(Found {
         in_query,
         in_templates,
     })
 }
 
-/// What the texts of a query and of its templates ask for and isn't there, over the data.
+/// What the texts of a query and of its templates ask for and isn't there, over the data that the query is asked over.
 /// # Errors
 /// Out of memory.
 pub(crate) fn report_of(
     alloc: Global,
-    graph: Graph,
+    over: QueryOver,
     query_path: &Str,
-    query: &AskedQuery,
+    asked: &[Claim],
     templates_path: &Str,
     text: &ItemTemplates,
 ) -> Result<Report, NoMemory>
     requires { All (EndsWithin text_end) text.now.items.items }
-    ensures { (bytes template_bytes : List ℕ) → Asks bytes query.now.asked.items
+    ensures { (bytes template_bytes : List ℕ) → Asks bytes asked.now
         → AreItems template_bytes text.now.items.items → IfOk result (λ r.
-        IsLintReport graph query.now.checked (file_of text.now.templates)
+        IsLintReport over.graph over.query (file_of text.now.templates)
         (texts_of query_path.now bytes templates_path.now template_bytes)
         r.text r.passed) }
 {
+    let QueryOver { graph, query, .. } = over;
     let has_active_end = has_active_end(alloc, graph.edges())?;
-    let scopes = scopes(alloc, &query.checked)?;
+    let scopes = scopes(alloc, &query)?;
     let store = IndexStore::of(alloc, graph)?;
     let mut asker = StoreAsker::of(store);
     let without_rows = blocks_without_rows(alloc, &mut asker, &scopes)?;
@@ -142,7 +143,7 @@ pub(crate) fn report_of(
         &scopes,
         &without_rows,
         has_active_end,
-        query,
+        asked,
         text,
     )?;
     report(

@@ -48,4 +48,4 @@ module _ (dot : Bool) (query : plain.Query) where
 
 pub schema_decides : (map : FileMap) (command : SchemaCommand) → Decides (SchemaEnds map command)
 schema_decides map command =
-    then_decides (QueryEnds map command.query) (SchemaTaken command.dot) (query_decides map command.query) (λ query. record { once = schema_once command.dot query })
+    then_decides (QueryEnds map command.query) (λ q. SchemaTaken command.dot q.query) (query_decides map command.query) (λ q. record { once = schema_once command.dot q.query })

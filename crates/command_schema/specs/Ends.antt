@@ -23,4 +23,4 @@ SchemaTaken dot query (Err fault) = ⊥
 
 -- How the command ends: the query is read, and then its schema is taken.
 abbrev pub SchemaEnds : FileMap → SchemaCommand → Result (List ℕ) Fault → Type 0
-SchemaEnds map command = Then (QueryEnds map command.query) (SchemaTaken command.dot)
+SchemaEnds map command = Then (QueryEnds map command.query) (λ q. SchemaTaken command.dot q.query)

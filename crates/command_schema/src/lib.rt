@@ -47,5 +47,5 @@ pub fn schema_text<F: Files>(
         (λ map. SchemaEnds map command.now result) }
 {
     let query = load_query(alloc, files, &command.query)?;
-    text_of(alloc, &query, command.dot)
+    text_of(alloc, &query.checked, command.dot)
 }

@@ -1,16 +1,15 @@
 -- One connection that asks for one target.
-use Rattle.std.proofs.Common.{◌≡◌, ◌≢◌, ℕ, zero, suc, ◌+◌, ◌<◌, ◌≤◌, ◌⊎◌, ◌||◌, Bool, true, false, List, [], ◌∷◌, ◌++◌, length, All, refl, sym, ap, ◌∙◌, subst, inl, inr, arith, append-nil, Option, Some, None, Ok, Err}
+use Rattle.std.proofs.Common.{◌≡◌, ◌≢◌, ℕ, ◌⊎◌, true, false, List, [], ◌∷◌, ◌++◌, All, refl, sym, ap, ◌∙◌, subst, inl, inr, arith, append-nil, Option, Some, None, Ok, Err}
 use Rattle.edge_io.specs.Counts.{Rose}
 use Rattle.std.proofs.lemmas.List.Elements.{All-head}
 use Rattle.httparse.specs.Grammar.{RequestHead, print_request}
 use Rattle.sd_value.specs.declared.Term.{Term}
 use Rattle.page_spec.specs.declared.Outcome.{Outcome}
-use Rattle.http_spec.specs.declared.RequestKind.{RequestKind}
 use Rattle.http_spec.specs.declared.ParsedRequest.{ParsedRequest}
 use Rattle.http_spec.specs.declared.Standing.{Standing}
 use Rattle.http_spec.specs.declared.Standing.TheVariants.{Open, Closed, Short}
 use Rattle.http_spec.specs.Asks.{ask_of}
-use Rattle.http_spec.specs.Heads.{IsHead, HasNoHead, Cuts, print_heads}
+use Rattle.http_spec.specs.Heads.{IsHead, Cuts, print_heads}
 use Rattle.http_spec.specs.Replies.{no_memory_bytes, reply_bytes}
 use Rattle.http_spec.specs.Sessions.{Showing, IsLookedUp, IsReply, IsRefused}
 use Rattle.http_spec.proofs.HeadLemmas.{cuts_unique, cuts_longest}
@@ -19,7 +18,7 @@ use Rattle.hub.specs.Line.{Line}
 use Rattle.serving_spec.specs.Delivered.{closing}
 use Rattle.serving_spec.specs.Made.{Made, nothing, NamedBy, LooksUp}
 use Rattle.hub.specs.Makes.{LooksUpAll, Makes}
-use Rattle.hub.specs.Pieces.{AreReplies, OpenAfter, ClosedAfter, RefusedAfter, ShortAfter, StaysOpen, Steps}
+use Rattle.hub.specs.Pieces.{AreReplies, ClosedAfter}
 use Rattle.hub.specs.Turns.{At, StepEnd, account_after, Opens, TakesPiece, Finishes, IsPieceServed, kept_after}
 use Rattle.serve_run.specs.Texts.{bytes_taken}
 use Rattle.command_trial.specs.Askable.{IsAskable}

@@ -1,5 +1,5 @@
 -- All connections of a trial, one after another.
-use Rattle.std.proofs.Common.{◌≡◌, ◌≢◌, ℕ, zero, suc, ◌+◌, ◌<◌, ◌≤◌, Bool, true, false, List, [], ◌∷◌, ◌++◌, length, All, get_or, refl, sym, ap, ◌∙◌, subst, inl, inr, ◌⊎◌, arith, append-nil, Option, Some, None, suc-ne-zero}
+use Rattle.std.proofs.Common.{◌≡◌, ◌≢◌, ℕ, zero, suc, ◌+◌, ◌<◌, ◌≤◌, true, List, [], ◌∷◌, ◌++◌, length, All, get_or, refl, sym, ap, ◌∙◌, subst, inl, inr, ◌⊎◌, arith, Option, Some, None}
 use Rattle.std.specs.Prelude.{nat_lt, MatchBool, if◌then◌else◌}
 use Rattle.std.proofs.lemmas.Bool.Decides.{nat_tests}
 use Rattle.std.proofs.lemmas.List.Elements.{All-head, All-tail}
@@ -11,7 +11,6 @@ use Rattle.page_spec.specs.Page.{IsOutcome}
 use Rattle.page_spec.specs.Site.{Site}
 use Rattle.tmpl.specs.Body.{TemplateFile}
 use Rattle.happenings.specs.Happening.{Happening}
-use Rattle.happenings.specs.declared.event.WireEvent.{WireEvent}
 use Rattle.happenings.specs.declared.event.WireEvent.TheVariants.{Opened, Bytes, Ended, Done}
 use Rattle.serving_spec.specs.Changes.{Changes}
 use Rattle.serving_spec.specs.Looks.{Kept, LooksIn}
@@ -19,7 +18,7 @@ use Rattle.serving_spec.specs.Shown.{shown_in}
 use Rattle.serving_spec.specs.declared.Origin.{Origin}
 use Rattle.hub.specs.Course.{Scene, Rules, Passes, PassesAll}
 use Rattle.serving_spec.specs.Made.{Made, nothing, AllLooked}
-use Rattle.hub.specs.Turns.{At, Opens, TakesPiece, Finishes}
+use Rattle.hub.specs.Turns.{At, Opens, TakesPiece}
 use Rattle.serving_spec.specs.Openings.{counts}
 use Rattle.serve_run.specs.Steps.{run_rules}
 use Rattle.serve_run.specs.Texts.{bytes_taken}
@@ -28,7 +27,7 @@ use Rattle.trial_spec.specs.Events.{events_from}
 use Rattle.trial_spec.specs.Asked.{IsAsked, AreAsked}
 use Rattle.command_trial.specs.Replies.{reply_to}
 use Rattle.trial_spec.specs.Requests.{request}
-use Rattle.command_trial.proofs.Connections.{unopened, opened, Fine, IsTroubled, opening, Replied, piece, passed_over, finished}
+use Rattle.command_trial.proofs.Connections.{unopened, opened, Fine, IsTroubled, opening, piece, passed_over, finished}
 
 -- any host is answered
 abbrev pub origin_under : Option (List ℕ) → Origin

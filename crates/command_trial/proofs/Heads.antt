@@ -1,6 +1,6 @@
 -- The head of a request for a target.
-use Rattle.std.proofs.Common.{◌≡◌, ℕ, zero, suc, ◌+◌, ◌<◌, ◌≤◌, Bool, true, false, List, [], ◌∷◌, ◌++◌, length, All, IsTrue, codes, slice_index, None, refl, sym, ap, ◌∙◌, subst, arith, append-nil, lit<, length-append}
-use Rattle.std.specs.Prelude.{◌&&◌, not, nat_lt, ◌==◌, IsUtf8}
+use Rattle.std.proofs.Common.{◌≡◌, ℕ, zero, suc, ◌<◌, ◌≤◌, Bool, true, false, List, [], ◌∷◌, ◌++◌, length, IsTrue, codes, slice_index, None, refl, sym, ◌∙◌, subst, arith, append-nil, lit<, length-append}
+use Rattle.std.specs.Prelude.{◌&&◌}
 use Rattle.std.specs.List.{list_all}
 use Rattle.std.proofs.lemmas.Bool.Decides.{nat_tests}
 use Rattle.std.proofs.lemmas.List.Elements.{All-cons, All-nil}

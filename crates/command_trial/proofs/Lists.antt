@@ -1,7 +1,7 @@
 -- The lists of a trial, one element more.
-use Rattle.std.proofs.Common.{◌≡◌, ℕ, zero, suc, ◌+◌, ◌*◌, ◌/◌, ◌%◌, ◌^◌, ◌<◌, ◌≤◌, Bool, true, false, List, [], ◌∷◌, ◌++◌, length, map, take, get_or, All, codes, decimal, refl, sym, ap, ◌∙◌, subst, arith, append_assoc, length-append, length-take-le, lit<, add-one}
-use Rattle.std.specs.Prelude.{nat_lt, nat_le, ◌&&◌, ◌||◌, ◌==◌, cond, if◌then◌else◌}
-use Rattle.std.specs.List.{list_all, sum_by}
+use Rattle.std.proofs.Common.{◌≡◌, ℕ, zero, suc, ◌+◌, ◌*◌, ◌/◌, ◌%◌, ◌^◌, ◌<◌, ◌≤◌, Bool, true, false, List, [], ◌∷◌, ◌++◌, length, take, get_or, All, codes, decimal, refl, sym, ap, ◌∙◌, subst, arith, append_assoc, length-append, length-take-le, lit<, add-one}
+use Rattle.std.specs.Prelude.{◌&&◌, if◌then◌else◌}
+use Rattle.std.specs.List.{list_all}
 use Rattle.std.specs.Char.{is_ascii_digit}
 use Rattle.std.proofs.Common.{rules}
 use Rattle.std.proofs.lemmas.Bool.Decides.{nat_tests}
@@ -13,7 +13,6 @@ use Rattle.std.proofs.lemmas.List.{take_more, map-append, length-map}
 use Rattle.std.proofs.lemmas.List.Elements.{All-nil, All-cons, All-append}
 use Rattle.sd_value.specs.declared.Term.{Term}
 use Rattle.page_spec.specs.Show.{address, in_address, is_plain, hex_digit}
-use Rattle.happenings.specs.declared.event.WireEvent.{WireEvent}
 use Rattle.command_trial.specs.Askable.{IsAskable, is_visible}
 use Rattle.trial_spec.specs.Data.{below}
 use Rattle.trial_spec.specs.Events.{events_from}

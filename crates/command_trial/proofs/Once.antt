@@ -21,7 +21,8 @@ use Rattle.site_inputs.specs.declared.fault.Fault.{Fault}
 use Rattle.site_inputs.specs.declared.fault.Fault.TheVariants.{Refused, Unread, Faulty, NotFound, NoMemory}
 use Rattle.site_inputs.specs.Runs.{IsDecided, Decides}
 use Rattle.command_spec.specs.Limits.{text_limit}
-use Rattle.site_inputs.specs.Sites.{Inputs, site_at}
+use Rattle.struql_orders.specs.Ordered.{Ordered}
+use Rattle.site_inputs.specs.Sites.{Inputs, query_of, site_at}
 use Rattle.trial_spec.specs.Asked.{IsAsked, AreAsked, IsTrialText, none_kept}
 use Rattle.trial_spec.specs.Numbers.{lines_of, counts_of}
 use Rattle.trial_spec.specs.Requests.{targets}
@@ -37,11 +38,12 @@ ok_is A E a b same = cc
 one_site : (entries : ℕ) (a b : Inputs) → IsMadeSite entries a → IsMadeSite entries b → a ≡ b
 one_site entries a b p q =
     let graphs : a.graph ≡ b.graph = p.graph ∙ sym q.graph in
-    let firsts : a.first ≡ b.first = p.first ∙ sym q.first in
-    let queries : a.query ≡ b.query = one_query text_limit query_text a.query b.query p.query q.query in
+    let stated : a.stated ≡ b.stated = p.stated ∙ sym q.stated in
+    let makings : a.making ≡ b.making = p.making ∙ sym q.making in
+    let queries : a.query ≡ b.query = ap (λ (x : Ordered). x.query) (one_query text_limit query_text (query_of a) (query_of b) p.query q.query) in
     let files : a.templates ≡ b.templates =
     ok_is TemplateFile TmplRefusal a.templates b.templates (templates_law.one_answer text_limit templates_text (Ok a.templates) (Ok b.templates) p.templates q.templates) in
-    λ i. record { graph = graphs i; first = firsts i; query = queries i; templates = files i }
+    λ i. record { graph = graphs i; stated = stated i; making = makings i; query = queries i; templates = files i }
 
 -- ---- what is kept
 

@@ -1,6 +1,6 @@
 -- A run over the events of a trial.
-use Rattle.std.proofs.Common.{◌≡◌, ℕ, zero, suc, ◌+◌, ◌<◌, ◌≤◌, ◌||◌, Bool, true, false, List, [], ◌∷◌, ◌++◌, length, All, get_or, take, drop, refl, sym, ap, ◌∙◌, subst, inl, inr, ◌⊎◌, arith, Option, Some, None, IfSome, IsSome, true≢false}
-use Rattle.std.specs.List.{list_any, fold}
+use Rattle.std.proofs.Common.{◌≡◌, ℕ, ◌+◌, ◌<◌, ◌≤◌, ◌||◌, Bool, true, false, List, [], ◌∷◌, ◌++◌, length, All, get_or, drop, refl, sym, ap, ◌∙◌, subst, inl, inr, ◌⊎◌, arith, Option, Some, None, IfSome, IsSome, true≢false}
+use Rattle.std.specs.List.{list_any}
 use Rattle.std.proofs.Math.Nat.{eq-or-lt_of_le}
 use Rattle.std.proofs.lemmas.List.{same_from_push}
 use Rattle.std.proofs.lemmas.List.Elements.{All-head, All-tail}
@@ -14,7 +14,6 @@ use Rattle.happenings.specs.Happening.{Happening}
 use Rattle.happenings.specs.declared.event.WireEvent.{WireEvent}
 use Rattle.happenings.specs.declared.event.WireEvent.TheVariants.{Opened, Bytes, Ended, Change, Done}
 use Rattle.serving_spec.specs.Changes.{Changes}
-use Rattle.serving_spec.specs.Looks.{Kept}
 use Rattle.mem_wire.specs.Sent.{Sent}
 use Rattle.mem_wire.specs.WireInMemory.{WireInMemory, entry_of, account_of, faults_of, accounts_of, faults_in, HasEntry, IsNew}
 use Rattle.mem_wire.specs.Steady.{steady_told}
@@ -25,13 +24,13 @@ use Rattle.serving_spec.specs.Openings.{counts}
 use Rattle.serving_spec.specs.declared.Tally.{Tally}
 use Rattle.serving_spec.specs.declared.HubEnd.{HubEnd}
 use Rattle.serving_spec.specs.declared.HubEnd.TheVariants as end
-use Rattle.serve_run.specs.Steps.{at, run_rules, TalliedInSteps, ServesInSteps}
+use Rattle.serve_run.specs.Steps.{run_rules, TalliedInSteps, ServesInSteps}
 use Rattle.serve_run.specs.Texts.{bytes_taken}
 use Rattle.serving_spec.specs.declared.Served.{Served}
 use Rattle.trial_spec.specs.declared.Counts.{Counts}
 use Rattle.command_trial.specs.Askable.{IsAskable}
 use Rattle.trial_spec.specs.Events.{events_from}
-use Rattle.trial_spec.specs.Asked.{AreAsked, none_kept, trial_room}
+use Rattle.trial_spec.specs.Asked.{AreAsked, trial_room}
 use Rattle.trial_spec.specs.Numbers.{counts_of}
 use Rattle.command_trial.specs.Replies.{IsFine, AreReplied, reply_to}
 use Rattle.trial_spec.specs.Requests.{request}

@@ -3,6 +3,7 @@ ghost use Rattle.std.specs.Prelude.{◌≤◌, IfOk};
 ghost use Rattle.site_inputs.specs.Values.{inputs_of};
 ghost use Rattle.command_trial.specs.Ends.{IsMadeSite};
 
+use made_data::Making;
 use sd_value::NoMemory;
 use site_inputs::SiteInputs;
 use std::alloc::Global;
@@ -15,7 +16,11 @@ pub(crate) fn made_site(alloc: Global, entries: u32) -> Result<SiteInputs, NoMem
 {
     Ok(SiteInputs {
         graph: made_graph(alloc, entries)?,
-        first: None,
+        stated: None,
+        making: Making {
+            first: None,
+            orders: Vec::new(alloc),
+        },
         query: made_query(alloc)?,
         templates: made_templates(alloc)?,
     })

@@ -1,6 +1,7 @@
 -- No text is both a data text and an edit: the first token of an edit begins no statement.
 use Rattle.std.proofs.Common.{◌≡◌, ◌≢◌, inl, inr, ℕ, Bool, true, false, List, [], ◌∷◌, ◌++◌, refl, sym, ap, subst, ◌∙◌, arith, true≢false, Result, Ok, Err}
-use Rattle.std.specs.Prelude.{codes, Option, Some, None}
+use Rattle.std.specs.Prelude.{codes, Option, Some, None, if◌then◌else◌}
+use Rattle.std.specs.Option.{is_none}
 use Rattle.std.proofs.lemmas.List.{append-nil}
 use Rattle.sd_lex.specs.declared.refusal.LexRefusal.{LexRefusal}
 use Rattle.sd_lex.specs.declared.refusal.LexRefusal.TheVariants.{NoMemory}
@@ -17,7 +18,7 @@ use Rattle.token_reader.proofs.Tokens.{one_lexing}
 use Rattle.ddl_text.specs.declared.tree.Statement.{Statement}
 use Rattle.ddl_text.specs.DataText.{directive, object, statement, file}
 use Rattle.graph_spec.specs.DataGraph.{DataGraph}
-use Rattle.query_spec.specs.Query as plain
+use Rattle.made_data.specs.Making.{Making}
 use Rattle.command_spec.specs.Limits.{data_limit}
 use Rattle.edit_spec.specs.declared.Edit.{Edit}
 use Rattle.edit_reader.specs.EditText.{edit}
@@ -62,9 +63,8 @@ no_states text is G states =
     let spelled = states.1.1 in
     true≢false (is spelled.0 spelled.1 ∙ file_begins spelled.0 states.1.0 spelled.2)
 
-pub no_data : (first : Option plain.Query) (text : List ℕ) → BeginsEdit text true → (G : DataGraph) → ¬ MakesData first text G
-no_data None text is G h = no_states text is G h
-no_data (Some q) text is G h = no_states text is h.0 h.1
+pub no_data : (making : Making) (text : List ℕ) → BeginsEdit text true → (G : DataGraph) → ¬ MakesData making text G
+no_data making text is G h = no_states text is h.0 h.1
 
 no_edit : (text : List ℕ) → BeginsEdit text false → (e : Edit) → ¬ IsEditText data_limit text e
 no_edit text is e h = true≢false (sym (edit_begins h.0 e h.2) ∙ sym (is h.0 h.1))
@@ -73,9 +73,12 @@ none_spelled : (text : List ℕ) → BeginsEdit text false → (o : Option Edit)
 none_spelled text is None h = refl
 none_spelled text is (Some e) h = absurd (no_edit text is e h.0)
 
-pub none_under : (first : Option plain.Query) (text : List ℕ) → BeginsEdit text false → (reader : EditReader) → None ≡ edit_under reader first text
-none_under None text is reader = none_spelled text is (reader.edit_in text) (reader.spells text)
-none_under (Some q) text is reader = refl
+pub none_under : (making : Making) (text : List ℕ) → BeginsEdit text false → (reader : EditReader) → None ≡ edit_under reader making text
+none_under making text is reader = by (is_none making.first)
+  where
+    by : (b : Bool) → None ≡ (if b then reader.edit_in text else None)
+    by true = none_spelled text is (reader.edit_in text) (reader.spells text)
+    by false = refl
 
 -- the test of the first token of these
 pub begins_by : (text : List ℕ) (tokens shown : List Token) (b : Bool) → b ≡ begins shown → shown ≡ tokens → BeginsEdit text (begins tokens) → BeginsEdit text b

@@ -7,3 +7,4 @@ pub mod TheEdits
 pub mod TheTouching
 pub mod Flags
 pub mod Apart
+pub mod AfterEdits

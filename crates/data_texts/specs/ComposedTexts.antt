@@ -1,22 +1,26 @@
--- What a text makes of the data of a run whose data may be the site of a first query.
-use Rattle.std.specs.Prelude.{ℕ, List, Ok, Option, Some, None}
+-- What a text makes of the data of a run.
+use Rattle.std.specs.Prelude.{◌≡◌, ℕ, true, false, List, Option, Some, None, Ok}
 use Rattle.graph_spec.specs.DataGraph.{DataGraph}
-use Rattle.query_spec.specs.Query as plain
-use Rattle.site_spec.specs.Site.{Scope, scope_of}
-use Rattle.composed_data.specs.SiteData.{DecidesSiteData}
-use Rattle.data_texts.specs.Texts.{no_data, States, Reader}
+use Rattle.made_data.specs.declared.Made.{Made}
+use Rattle.made_data.specs.Making.{Making, MadeEnds, keeps_stated}
+use Rattle.data_texts.specs.Texts.{States, Reader}
 
--- The text is an accepted data text, and this is the graph of the first query's site over the data that it states alone,
--- which is within the program's limits.
-abbrev pub StatesOver : Scope → List ℕ → DataGraph → Type 0
-StatesOver first text whole =
-    (raw : DataGraph) × States text raw × DecidesSiteData no_data.limits raw first (Ok whole)
+-- The text is an accepted data text, and these are the data that are made of what it states alone, which are within the
+-- program's limits.
+abbrev pub MakesData : Making → List ℕ → DataGraph → Type 0
+MakesData making text whole =
+    (raw : DataGraph) × States text raw × MadeEnds raw making (Ok whole)
 
--- The text is accepted, and makes these data: those that it states, or that graph, where there is a first query.
-abbrev pub MakesData : Option plain.Query → List ℕ → DataGraph → Type 0
-MakesData None = States
-MakesData (Some first) = StatesOver (scope_of first)
+-- what is stated, where it is kept
+abbrev pub IsKept : Making → List ℕ → Option DataGraph → Type 0
+IsKept making text None = keeps_stated making ≡ false
+IsKept making text (Some G) = (keeps_stated making ≡ true) × States text G
 
--- for each first query, and for none, a reader: which texts are accepted, exactly, and the data that each of them makes
+-- what reading a text gives: the data that it makes, with what it states where that is kept; none where it isn't accepted
+abbrev pub IsMade : Making → List ℕ → Option Made → Type 0
+IsMade making text None = (G : DataGraph) → ¬ MakesData making text G
+IsMade making text (Some made) = MakesData making text made.graph × IsKept making text made.stated
+
+-- for each way to make them a reader: which texts are accepted, exactly, and the data that each of them makes
 abbrev pub Readers : Type 0
-Readers = (first : Option plain.Query) → Reader (MakesData first)
+Readers = (making : Making) → Reader (MakesData making)

@@ -1,16 +1,16 @@
 -- What a text of a run is: other data, or an edit of those that there are, or neither.
-use Rattle.std.specs.Prelude.{◌≡◌, Bool, ℕ, List, Ok, Option, codes}
+use Rattle.std.specs.Prelude.{◌≡◌, Bool, ℕ, List, Ok, Option, Some, codes}
 use Rattle.sd_lex.specs.declared.token.Token.{Token}
 use Rattle.sd_lex.specs.Lexing.{IsTextOrFault}
 use Rattle.grammar.specs.Reading.{starts}
 use Rattle.token_reader.specs.Terminals.{is_word}
 use Rattle.graph_spec.specs.DataGraph.{DataGraph}
-use Rattle.query_spec.specs.Query as plain
+use Rattle.made_data.specs.Making.{Making}
 use Rattle.command_spec.specs.Limits.{data_limit}
 use Rattle.edit_spec.specs.declared.Edit.{Edit}
 use Rattle.edit_reader.specs.Reads.{IsEditText}
 use Rattle.data_texts.specs.Texts.{States}
-use Rattle.data_texts.specs.ComposedTexts.{MakesData}
+use Rattle.data_texts.specs.ComposedTexts.{MakesData, IsMade}
 use Rattle.data_texts.specs.Edits.{EditReader, edit_under}
 use Rattle.data_texts.specs.declared.run_texts.RunText.{RunText}
 use Rattle.data_texts.specs.declared.run_texts.RunText.TheVariants.{Data, Other}
@@ -22,11 +22,11 @@ BeginsEdit text begins =
     → begins ≡ starts (is_word (codes "edit")) tokens
 
 -- the text makes these data; or it makes none, and this is the edit that it spells, or none where it spells none
-abbrev pub IsRunText : Option plain.Query → List ℕ → RunText → Type 0
-IsRunText first text (Data G) = MakesData first text G
-IsRunText first text (Other edit) =
-    ((G : DataGraph) → ¬ MakesData first text G)
-    × ((reader : EditReader) → edit ≡ edit_under reader first text)
+abbrev pub IsRunText : Making → List ℕ → RunText → Type 0
+IsRunText making text (Data made) = IsMade making text (Some made)
+IsRunText making text (Other edit) =
+    ((G : DataGraph) → ¬ MakesData making text G)
+    × ((reader : EditReader) → edit ≡ edit_under reader making text)
 
 -- no text states data and spells an edit
 abbrev pub AreApart : Type 0

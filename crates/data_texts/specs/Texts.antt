@@ -1,5 +1,5 @@
 -- What a text makes of the data of a run.
-use Rattle.std.specs.Prelude.{◌≡◌, ℕ, Bool, true, false, List, [], Ok, Option, Some, None}
+use Rattle.std.specs.Prelude.{◌≡◌, ℕ, Bool, true, false, List, [], Ok}
 use Rattle.graph_spec.specs.DataGraph.{DataGraph}
 use Rattle.command_spec.specs.Limits.{data_limit, node_limit, edge_limit}
 use Rattle.sd_graph.specs.Statement.{Building}
@@ -24,8 +24,3 @@ pub record Reader (Makes : List ℕ → DataGraph → Type 0) : Type 0 where
   pub stated : List ℕ → DataGraph
   pub accepted : (text : List ℕ) → accepts text ≡ true → Makes text (stated text)
   pub refused : (text : List ℕ) → accepts text ≡ false → (G : DataGraph) → ¬ Makes text G
-
--- what reading a text gives: its data, or none where it isn't accepted
-abbrev pub IsRead : (List ℕ → DataGraph → Type 0) → List ℕ → Option DataGraph → Type 0
-IsRead Makes text None = (G : DataGraph) → ¬ Makes text G
-IsRead Makes text (Some G) = Makes text G

@@ -4,17 +4,22 @@ ghost use Rattle.std.specs.Prelude.{◌≡◌, IfOk, map, not};
 ghost use Rattle.sd_value.specs.declared.Term.{Term as AnyTerm};
 ghost use Rattle.tmpl.specs.Reading.{file_of};
 ghost use Rattle.query_blocks.specs.Blocks.{AreCheckedBlocks, scope_of};
-ghost use Rattle.data_texts.specs.Edits.{EditReader, IsSpelled, edit_under};
+ghost use Rattle.order_spec.specs.Read.{order_of};
+ghost use Rattle.made_data.specs.Making.{making_of};
+ghost use Rattle.edit_spec.specs.Edited.{IsOfData};
+ghost use Rattle.data_texts.specs.Edits.{EditReader, IsSpelled, IsRemade, RemadeEnds, edit_under};
 ghost use Rattle.data_texts.specs.Touching.{Touching};
 
 use command_spec::DATA_LIMIT;
 use edit_footprint::touches_pages;
 use edit_reader::read_edit;
 use edit_spec::Edit;
+use made_data::{Made, Making, copied, edited_data, ordered_data};
+use order_spec::Order;
 use query_blocks::QueryBlocks;
+use sd_graph::{Graph, GraphRefusal};
 use sd_value::{NoMemory, Str, Term};
 use std::alloc::Global;
-use struql_check::Checked;
 use tmpl::Templates;
 
 /// The edit that a text spells; none where it spells none.
@@ -34,18 +39,14 @@ pub fn edit_in(alloc: Global, text: &Str) -> Result<Option<Edit>, NoMemory>
     }
 }
 
-/// The edit that a text spells, where there is no first query; none where it spells none, and with a first query.
+/// The edit that a text spells, where there is no first query; none where it spells none, and under a first query.
 /// # Errors
 /// Out of memory.
-pub fn read_text_edit(
-    alloc: Global,
-    text: &Str,
-    first: &Option<Checked>,
-) -> Result<Option<Edit>, NoMemory>
+pub fn read_text_edit(alloc: Global, text: &Str, making: &Making) -> Result<Option<Edit>, NoMemory>
     ensures { IfOk result (λ edit. (reader : EditReader)
-        → edit ≡ edit_under reader first.now text.now) }
+        → edit ≡ edit_under reader (making_of making.now) text.now) }
 {
-    match first {
+    match &making.first {
         None => {
             let edit = edit_in(alloc, text)?;
             Ok(edit)
@@ -75,6 +76,46 @@ pub fn spared(
         flags.push(!touched)?;
     }
     Ok(flags)
+}
+
+// The data after an edit of what is stated, in the order of these ORDERs, and what is stated then.
+fn made_after(
+    alloc: Global,
+    stated: &Graph,
+    edit: &Edit,
+    orders: &[Order],
+) -> Result<Made, GraphRefusal>
+    requires { IsOfData edit.now }
+    ensures { RemadeEnds (map order_of orders.now) edit.now stated.now result }
+{
+    let edited = edited_data(alloc, stated, edit)?;
+    let copy = copied(alloc, &edited)?;
+    let graph = ordered_data(alloc, copy, orders)?;
+    Ok(Made {
+        graph,
+        stated: Some(edited),
+    })
+}
+
+/// The data after an edit of what is stated, in the order of these ORDERs, and what is stated then; none where there is no
+/// room for one of both.
+/// # Errors
+/// Out of memory.
+pub fn remade(
+    alloc: Global,
+    stated: &Graph,
+    edit: &Edit,
+    orders: &[Order],
+) -> Result<Option<Made>, NoMemory>
+    requires { IsOfData edit.now }
+    ensures { IfOk result (IsRemade (map order_of orders.now) edit.now stated.now) }
+{
+    match made_after(alloc, stated, edit, orders) {
+        Ok(made) => Ok(Some(made)),
+        Err(GraphRefusal::TooManyNodes) => Ok(None),
+        Err(GraphRefusal::TooManyEdges) => Ok(None),
+        Err(GraphRefusal::NoMemory) => Err(NoMemory),
+    }
 }
 
 /// There is a reader of edits, as a function: which texts spell an edit, and which.

@@ -25,7 +25,7 @@ use Rattle.graph_order.specs.Adding.{building_of, PutsIn}
 -- ---- sizes
 
 module _ {X : Type 0} (R : X → X → Ordering) where
-  inserted_least : (k : X) (xs : List X) → length xs ≤ length (insert_key R xs k)
+  pub inserted_least : (k : X) (xs : List X) → length xs ≤ length (insert_key R xs k)
   inserted_least k [] = omega arith
   inserted_least k (x ∷ xs) = by (inserted_least k xs) (R k x)
     where

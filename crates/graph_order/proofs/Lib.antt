@@ -1,9 +1,9 @@
-mod Growth
+pub mod Growth
 mod Along
 mod ByNode
-mod Copies
+pub mod Copies
 mod Least
 mod Ends
 mod Keyed
 mod Ranks
-mod Whole
+pub mod Whole

@@ -20,7 +20,12 @@ use sd_graph::{Edge, Graph, GraphBuilder, GraphRefusal, Limits, Member};
 use sd_value::{Datum, Str, Value};
 use std::alloc::Global;
 
-fn add_nodes(alloc: Global, builder: &mut GraphBuilder, names: &[Str]) -> Result<(), GraphRefusal>
+/// Declares nodes.
+pub fn add_nodes(
+    alloc: Global,
+    builder: &mut GraphBuilder,
+    names: &[Str],
+) -> Result<(), GraphRefusal>
     ensures { PutsIn (map a_node names.now) builder.old builder.new result }
 {
     for name in names {
@@ -53,7 +58,7 @@ fn add_members(
 }
 
 /// A builder of an equal graph.
-pub(crate) fn builder_of(
+pub fn builder_of(
     alloc: Global,
     limits: Limits,
     graph: &Graph,

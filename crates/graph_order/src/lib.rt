@@ -11,7 +11,8 @@ mod keys;
 mod members;
 mod numbers;
 
-use adding::{add_along, builder_of};
+use adding::add_along;
+pub use adding::{add_nodes, builder_of};
 use members::members_in_order;
 use numbers::by_node;
 pub use order_spec::{Order, Place};

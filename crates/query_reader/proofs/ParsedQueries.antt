@@ -11,8 +11,9 @@ use Rattle.sd_lex.specs.declared.token.TokenKind.{TokenKind}
 use Rattle.sd_lex.specs.declared.token.TokenKind.TheVariants as kinds
 use Rattle.query_spec.specs.Mentions.{IsFlat, IsVersion}
 use Rattle.query_spec.specs.Query as plain
-use Rattle.struql_ast.specs.declared.Query as declared
-use Rattle.struql_ast.specs.Written.{Condition, Term, Link, Collect, Clauses, Blocks, no_blocks, block, Query, query_written}
+use Rattle.struql_ast.specs.Written.{Condition, Term, Link, Collect, Clauses, Blocks, no_blocks, block}
+use Rattle.struql_orders.specs.declared.OrderedQuery as declared
+use Rattle.struql_orders.specs.Ordered.{OrderedQuery, ordered_written}
 use Rattle.struql_text.specs.Terminals.{version_kind_value, version_value}
 use Rattle.struql_text.specs.Expression.{expression_within}
 use Rattle.struql_parse.specs.declared.refusal.ParseRefusal.{ParseRefusal}
@@ -111,20 +112,21 @@ blocks_parsed bs n good fits small version input output known = record {
   few_collects = let f = few_of (λ (b : plain.Body). b.collects) collects_few (blocks_plain bs) in let e = size_total bs in omega (arith, f, e, fits, small);
 }
 
-pub within_parsed : (tokens : List Token) (q : Query) → query_within tokens q → length tokens < 2 ^ 32 → IsParsed (query_plain q)
+pub within_parsed : (tokens : List Token) (q : OrderedQuery) → query_within tokens q → length tokens < 2 ^ 32 → IsParsed (query_plain q.query)
 within_parsed tokens q
-    (a, b, n, e1, begin, (c, d, s1, e2, word, (f, g, input, e3, name, (h, i, groups, e4, (k, turns), (j, l, s2, e5, ending, (m, o, output, e6, last, (nil, is))))))) small =
+    (a, b, n, e1, begin, (c, d, s1, e2, word, (f, g, input, e3, name, (p, r, orders, e7, ordered, (h, i, groups, e4, (k, turns), (j, l, s2, e5, ending, (m, o, output, e6, last, (nil, is)))))))) small =
     let grown = groups_grow n expression_within (λ (x : Groups). body n expression_within (levels x.bare)) (λ x. body_bounded n expression_within (levels x.bare)) k no_groups groups h turns in
     let good = grown.1 (tt, tt) in
     let sized = closing_size groups.closed groups.bare in
-    let w1 = split_length tokens a b e1 in let w2 = split_length b c d e2 in let w3 = split_length d f g e3 in let w4 = split_length g h i e4 in
-    let fits : size (grouped groups) ≤ length tokens = omega (arith, grown.0, sized, w1, w2, w3, w4) in
-    subst (λ (x : Query). IsParsed (query_plain x)) (sym is)
+    let w1 = split_length tokens a b e1 in let w2 = split_length b c d e2 in let w3 = split_length d f g e3 in
+    let w4 = split_length r h i e4 in let w5 = split_length g p r e7 in
+    let fits : size (grouped groups) ≤ length tokens = omega (arith, grown.0, sized, w1, w2, w3, w4, w5) in
+    subst (λ (x : OrderedQuery). IsParsed (query_plain x.query)) (sym is)
     (blocks_parsed (grouped groups) (length tokens) (closing_good groups.closed groups.bare good.0 good.1) fits small n input.text output.text (head_version a n begin))
 
 -- what the grammar answers to a text
-pub is_written : (limit : ℕ) (bytes : List ℕ) (result : Result declared.Query ParseRefusal) → limit < 2 ^ 32 → TextStates limit bytes result → IsWritten limit bytes result
+pub is_written : (limit : ℕ) (bytes : List ℕ) (result : Result declared.OrderedQuery ParseRefusal) → limit < 2 ^ 32 → TextStates limit bytes result → IsWritten limit bytes result
 is_written limit bytes (Ok query) small states =
     let few = text_length limit bytes states.0 states.1 in
-    (states, subst IsParsed (query_same query) (within_parsed states.0 (query_written query) states.2 (omega (arith, few, small))))
+    (states, subst IsParsed (query_same query.query) (within_parsed states.0 (ordered_written query) states.2 (omega (arith, few, small))))
 is_written limit bytes (Err refusal) small states = states

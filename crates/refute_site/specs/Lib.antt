@@ -5,3 +5,4 @@ pub mod Patterns
 pub mod Refuting
 pub mod Rules
 pub mod Trying
+pub mod Tried

@@ -2,14 +2,13 @@
 //! constraint, by any trial of graphs.
 #![tactic(auto)]
 
-ghost use Rattle.std.specs.Prelude.{◌≡◌, IfOk, Some};
+ghost use Rattle.std.specs.Prelude.{◌≡◌, List, IfOk, Some};
 ghost use Rattle.sd_graph.specs.ProgramLimits.{IsWithinProgram};
-ghost use Rattle.refute_site.specs.Trying.{IsTried};
+ghost use Rattle.refute_site.specs.Tried.{MeetsOrdered, IsFirstBrokenOver};
 ghost use Rattle.site_spec.specs.Site.{scope_of, Scope};
 ghost use Rattle.graph_spec.specs.DataGraph.{DataGraph};
 ghost use Rattle.constraint_spec.specs.declared.Constraint.{Constraint as TheConstraint};
-ghost use Rattle.constraint_spec.specs.Meets.{Meets};
-ghost use Rattle.counterexample_spec.specs.First.{IsFirstBroken};
+ghost use Rattle.order_spec.specs.Order.{Order};
 
 mod candidate;
 mod candidates;
@@ -32,8 +31,9 @@ use sd_graph::{Graph, GraphBuilder, PROGRAM_LIMITS};
 use sd_value::NoMemory;
 use std::alloc::Global;
 
-/// The first of the constraint's candidates that are tried over which the query's site doesn't meet the constraint, and
-/// none exactly if it meets it over each of these. The candidates are made one after another.
+/// The first of the constraint's candidates that are tried of which the ORDERs make a graph over which the query's site
+/// doesn't meet the constraint, and none exactly if it meets it over each of these, or they are too large. The candidates
+/// are made one after another.
 /// # Errors
 /// Out of memory.
 pub fn first_broken<T: Oracle>(
@@ -46,8 +46,9 @@ pub fn first_broken<T: Oracle>(
     requires scope { T.scope trial.old ≡ scope_of query.now }
     ensures own { T.Own trial.new }
     ensures scope { T.scope trial.new ≡ T.scope trial.old }
+    ensures orders { T.orders trial.new ≡ T.orders trial.old }
     ensures first { IfOk result
-        (IsFirstBroken (IsTried (scope_of query.now)) (scope_of query.now) constraint.now) }
+        (IsFirstBrokenOver (T.orders trial.old) (scope_of query.now) constraint.now) }
 {
     let blocks = query.blocks();
     let candidates = candidates_of(alloc, blocks, constraint)?;
@@ -58,9 +59,10 @@ pub fn first_broken<T: Oracle>(
     first_refuting(alloc, blocks, &candidates, constraint, trial)
 }
 
-/// The graph that is found is within the program's limits, and the query's site over it doesn't meet the constraint.
+/// The graph that is found is within the program's limits, and the query's site over what the ORDERs make of it doesn't meet
+/// the constraint.
 pub fn what_is_found_is_a_counterexample()
-    ensures { (q : Scope) (c : TheConstraint) (G : DataGraph)
-        → IsFirstBroken (IsTried q) q c (Some G)
-        → IsWithinProgram G × (Meets G q c → ⊥) }
+    ensures { (orders : List Order) (q : Scope) (c : TheConstraint) (G : DataGraph)
+        → IsFirstBrokenOver orders q c (Some G)
+        → IsWithinProgram G × (MeetsOrdered orders G q c → ⊥) }
 {}

@@ -2,11 +2,11 @@
 ghost use Rattle.std.specs.Prelude.{◌≡◌, IfOk, map};
 ghost use Rattle.graph_spec.specs.DataGraph.{DataGraph};
 ghost use Rattle.sd_graph.specs.ProgramLimits.{IsWithinProgram};
-ghost use Rattle.constraint_spec.specs.Meets.{Meets};
 ghost use Rattle.counterexample_spec.specs.First.{IsFirstWithout};
 ghost use Rattle.refute_site.specs.Candidates.{candidate_graph, HasItsVariables, HaveTheirVariables};
 ghost use Rattle.refute_site.specs.Refuting.{IsRefuting};
 ghost use Rattle.refute_site.specs.Trying.{IsTried};
+ghost use Rattle.refute_site.specs.Tried.{MeetsOrdered};
 ghost use Rattle.query_blocks.specs.Blocks.{scope_of, AreCheckedBlocks};
 
 use crate::candidate::Candidate;
@@ -18,7 +18,7 @@ use sd_value::NoMemory;
 use std::alloc::Global;
 use trial_size::is_small;
 
-/// The graph that is built, if it is tried and the query's site over it doesn't meet the constraint.
+/// The graph that is built, if it is tried and the query's site over what the ORDERs make of it doesn't meet the constraint.
 /// # Errors
 /// Out of memory.
 pub(crate) fn refuting<T: Oracle>(
@@ -33,8 +33,10 @@ pub(crate) fn refuting<T: Oracle>(
     requires within { IsWithinProgram builder.graph }
     ensures own { T.Own trial.new }
     ensures scope { T.scope trial.new ≡ T.scope trial.old }
+    ensures orders { T.orders trial.new ≡ T.orders trial.old }
     ensures first { IfOk result (IsRefuting (IsTried (scope_of blocks.now))
-        (λ (G : DataGraph). Meets G (T.scope trial.old) constraint.now) builder.graph) }
+        (λ (G : DataGraph). MeetsOrdered (T.orders trial.old) G (T.scope trial.old) constraint.now)
+        builder.graph) }
 {
     let same = builder.copy(alloc)?;
     let graph = builder.finish(alloc)?;
@@ -48,8 +50,7 @@ pub(crate) fn refuting<T: Oracle>(
     Ok(Some(graph))
 }
 
-// The candidate's graph, if it is tried and the query's site over it doesn't meet
-// the constraint.
+// The candidate's graph, if it is tried and the query's site over what the ORDERs make of it doesn't meet the constraint.
 fn refuting_candidate<T: Oracle>(
     alloc: Global,
     blocks: &QueryBlocks,
@@ -62,8 +63,9 @@ fn refuting_candidate<T: Oracle>(
     requires variables { HasItsVariables candidate.now }
     ensures own { T.Own trial.new }
     ensures scope { T.scope trial.new ≡ T.scope trial.old }
+    ensures orders { T.orders trial.new ≡ T.orders trial.old }
     ensures first { IfOk result (IsRefuting (IsTried (scope_of blocks.now))
-        (λ (G : DataGraph). Meets G (T.scope trial.old) constraint.now)
+        (λ (G : DataGraph). MeetsOrdered (T.orders trial.old) G (T.scope trial.old) constraint.now)
         (candidate_graph candidate.now)) }
 {
     match candidate.graph(alloc)? {
@@ -72,8 +74,7 @@ fn refuting_candidate<T: Oracle>(
     }
 }
 
-/// The graph of the first of the candidates that are tried over which the query's site doesn't
-/// meet the constraint. No graph is made after it.
+/// The graph of the first of the candidates that are tried of which this is so. No graph is made after it.
 /// # Errors
 /// Out of memory.
 pub(crate) fn first_refuting<T: Oracle>(
@@ -88,8 +89,9 @@ pub(crate) fn first_refuting<T: Oracle>(
     requires variables { HaveTheirVariables candidates.now }
     ensures own { T.Own trial.new }
     ensures scope { T.scope trial.new ≡ T.scope trial.old }
+    ensures orders { T.orders trial.new ≡ T.orders trial.old }
     ensures first { IfOk result (IsFirstWithout (IsTried (scope_of blocks.now))
-        (λ (G : DataGraph). Meets G (T.scope trial.old) constraint.now)
+        (λ (G : DataGraph). MeetsOrdered (T.orders trial.old) G (T.scope trial.old) constraint.now)
         (map candidate_graph candidates.now)) }
 {
     for candidate in candidates {

@@ -1,7 +1,7 @@
 -- A part's unread path is one of the whole's.
 use Rattle.std.proofs.Common.{◌≡◌, ℕ, ◌<◌, List, [], ◌∷◌, ◌++◌, length, get_or, arith, subst, sym, ⊎_elim}
 use Rattle.std.proofs.lemmas.List.Elements.{Contains-append_left, Contains-append_right, Contains-push_cases, Contains-get_or}
-use Rattle.std.specs.Prelude.{Contains, Err}
+use Rattle.std.specs.Prelude.{Contains, Result, Ok, Err, IfErr}
 use Rattle.edge_io.specs.Counts.{NoneFell}
 use Rattle.site_inputs.specs.declared.fault.Fault.{Fault}
 use Rattle.site_inputs.specs.declared.fault.Fault.TheVariants.{Refused, Unread, Faulty, NotFound, NoMemory}
@@ -45,3 +45,13 @@ of_files sources first path h = Contains-append_left sources (first ∷ []) path
 
 pub of_first : (sources : List (List ℕ)) (first path : List ℕ) → Contains (first ∷ []) path → Contains (sources ++ (first ∷ [])) path
 of_first sources first path h = Contains-append_right sources (first ∷ []) path h
+
+-- a part that never ends with an unread path has none
+pub none_unread : {A : Type 0} (Taken : Result A Fault → Type 0) → ((path : List ℕ) → Taken (Err (Unread path)) → ⊥)
+    → (paths : List (List ℕ)) (before now : List ℕ → ℕ) (result : Result A Fault) → Taken result → IfErr result (UnreadRose paths before now)
+none_unread Taken never paths before now (Ok value) taken = tt
+none_unread Taken never paths before now (Err (Unread path)) taken = absurd (never path taken)
+none_unread Taken never paths before now (Err (Refused refusal)) taken = tt
+none_unread Taken never paths before now (Err (Faulty term kind)) taken = tt
+none_unread Taken never paths before now (Err NotFound) taken = tt
+none_unread Taken never paths before now (Err NoMemory) taken = tt

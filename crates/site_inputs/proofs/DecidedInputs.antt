@@ -10,7 +10,9 @@ use Rattle.data_source.specs.Rules.{rules_of}
 use Rattle.data_source.specs.Takes.{Takes}
 use Rattle.data_source.specs.declared.rules.SourceRules.{SourceRules}
 use Rattle.data_source.proofs.Files as source_law
-use Rattle.query_spec.specs.Query as plain
+use Rattle.graph_spec.specs.DataGraph.{DataGraph}
+use Rattle.sd_graph.specs.declared.GraphRefusal.TheVariants as graph
+use Rattle.struql_orders.specs.Ordered.{Ordered}
 use Rattle.token_reader.specs.declared.refusal.TextRefusal.TheVariants as text
 use Rattle.struql_parse.specs.declared.refusal.ParseRefusal.TheVariants as parse
 use Rattle.struql_check.specs.declared.refusal.CheckRefusal.TheVariants as check
@@ -32,8 +34,9 @@ use Rattle.command_spec.specs.Limits.{data_limit}
 use Rattle.command_spec.specs.declared.DataFiles.{DataFiles}
 use Rattle.site_inputs.specs.Sources.{empty_building, IsRefusedFor, TextTaken, SourceEnds, FilesEnd, GraphEnds}
 use Rattle.command_spec.specs.Limits.{text_limit}
-use Rattle.site_inputs.specs.Sites.{query_told, QueryTaken, QueryEnds, DataInputsEnd, TemplatesTaken, TemplatesEnd, InputsEnd, templates_told}
+use Rattle.site_inputs.specs.Sites.{query_told, QueryTaken, QueryEnds, DataInputsEnd, OverData, OrdersTaken, QueryOverEnds, TemplatesTaken, TemplatesEnd, InputsEnd, templates_told}
 use Rattle.site_inputs.proofs.Decided.{then_decides, gives_decides}
+use Rattle.site_inputs.proofs.MadeGraphs.{made_is, not_made, orders_have_one}
 use Rattle.site_inputs.proofs.SiteData.{site_decides}
 use Rattle.site_inputs.proofs.Sites.{inputs_with, InTurn, in_turn}
 
@@ -161,15 +164,15 @@ query_settled (NotChecked (check.TooManyVariables at)) told h = tt
 query_settled (NotChecked check.NoMemory) told h = absurd cc
 
 module _ (path bytes : List ℕ) where
-  query_once : (one other : Result plain.Query Fault) → QueryTaken path bytes one → QueryTaken path bytes other → IsDecided one → IsDecided other → one ≡ other
-  query_once (Ok q) (Ok r) s t _ _ = ap Ok (ok_is plain.Query QueryRefusal q r (query_text_law.one_answer text_limit bytes (Ok q) (Ok r) s t tt tt))
+  query_once : (one other : Result Ordered Fault) → QueryTaken path bytes one → QueryTaken path bytes other → IsDecided one → IsDecided other → one ≡ other
+  query_once (Ok q) (Ok r) s t _ _ = ap Ok (ok_is Ordered QueryRefusal q r (query_text_law.one_answer text_limit bytes (Ok q) (Ok r) s t tt tt))
   query_once (Ok q) (Err (Refused g)) s (told, is, x, r, tells) _ _ =
-      absurd (no_err plain.Query QueryRefusal q x (query_text_law.one_answer text_limit bytes (Ok q) (Err x) s r tt (query_settled x told tells)))
+      absurd (no_err Ordered QueryRefusal q x (query_text_law.one_answer text_limit bytes (Ok q) (Err x) s r tt (query_settled x told tells)))
   query_once (Err (Refused f)) (Ok q) (told, is, x, r, tells) t _ _ =
-      absurd (no_err plain.Query QueryRefusal q x (query_text_law.one_answer text_limit bytes (Ok q) (Err x) t r tt (query_settled x told tells)))
+      absurd (no_err Ordered QueryRefusal q x (query_text_law.one_answer text_limit bytes (Ok q) (Err x) t r tt (query_settled x told tells)))
   query_once (Err (Refused f)) (Err (Refused g)) (told, is, x, r, tells) (other, is2, y, q, tells2) _ _ =
       let refusals : x ≡ y =
-      err_is plain.Query QueryRefusal x y (query_text_law.one_answer text_limit bytes (Err x) (Err y) r q (query_settled x told tells) (query_settled y other tells2)) in
+      err_is Ordered QueryRefusal x y (query_text_law.one_answer text_limit bytes (Err x) (Err y) r q (query_settled x told tells) (query_settled y other tells2)) in
       refused_same path f g told other is is2 (told_same (query_told x) (query_told y) told other tells tells2 (ap query_told refusals))
   query_once (Err (Unread p)) other s t d e = absurd d
   query_once (Err NoMemory) other s t d e = absurd d
@@ -182,6 +185,43 @@ module _ (path bytes : List ℕ) where
 
 pub query_decides : (map : FileMap) (path : List ℕ) → Decides (QueryEnds map path)
 query_decides map path = then_decides (FileEnds text_limit map path) (QueryTaken path) (file_decides text_limit map path) (λ bytes. record { once = query_once path bytes })
+
+-- ---- a query over data
+
+module _ (path : List ℕ) (G : DataGraph) (query : Ordered) where
+  one_over : (found other : OverData) → OrdersTaken path G query (Ok found) → OrdersTaken path G query (Ok other) → found ≡ other
+  one_over found other s t =
+      let graphs : found.graph ≡ other.graph =
+      made_is found.graph other.graph ((orders_have_one query.orders G).once (Ok found.graph) (Ok other.graph) s.0 t.0 tt tt) in
+      let queries : found.query ≡ other.query = s.1 ∙ sym t.1 in
+      λ i. record { graph = graphs i; query = queries i }
+
+  over_or_refused : (found : OverData) (g : Refusal) → OrdersTaken path G query (Ok found) → OrdersTaken path G query (Err (Refused g)) → ⊥
+  over_or_refused found g s t =
+      not_made found.graph graph.TooManyEdges ((orders_have_one query.orders G).once (Ok found.graph) (Err graph.TooManyEdges) s.0 t.1 tt tt)
+
+  pub orders_once : (one other : Result OverData Fault) → OrdersTaken path G query one → OrdersTaken path G query other → IsDecided one → IsDecided other → one ≡ other
+  orders_once (Ok a) (Ok b) s t _ _ = ap Ok (one_over a b s t)
+  orders_once (Ok a) (Err (Refused g)) s t _ _ = absurd (over_or_refused a g s t)
+  orders_once (Err (Refused f)) (Ok b) s t _ _ = absurd (over_or_refused b f t s)
+  orders_once (Err (Refused f)) (Err (Refused g)) s t _ _ = ap (λ (r : Refusal). Err (Refused r)) (s.0 ∙ sym t.0)
+  orders_once (Err (Unread p)) other s t d e = absurd d
+  orders_once (Err NoMemory) other s t d e = absurd d
+  orders_once (Err NotFound) other s t d e = absurd s
+  orders_once (Err (Faulty term kind)) other s t d e = absurd s
+  orders_once one (Err (Unread p)) s t d e = absurd e
+  orders_once one (Err NoMemory) s t d e = absurd e
+  orders_once one (Err NotFound) s t d e = absurd t
+  orders_once one (Err (Faulty term kind)) s t d e = absurd t
+
+  -- the graph that its ORDERs make
+  pub orders_taken_decides : Decides (OrdersTaken path G query)
+  orders_taken_decides = record { once = orders_once }
+
+-- the file of a query over data
+pub query_over_decides : (map : FileMap) (path : List ℕ) (G : DataGraph) → Decides (QueryOverEnds map path G)
+query_over_decides map path G =
+    then_decides (QueryEnds map path) (OrdersTaken path G) (query_decides map path) (λ query. orders_taken_decides path G query)
 
 -- ---- templates
 
@@ -231,6 +271,6 @@ module _ (map : FileMap) (sources : DataFiles) (over : Option (List ℕ)) (query
       in_turn_decides : Decides (InTurn map sources over query_path templates_path)
       in_turn_decides =
           then_decides (DataInputsEnd map sources over) _ (data_decides map sources over) (λ found.
-          then_decides (QueryEnds map query_path) _ (query_decides map query_path) (λ query.
+          then_decides (QueryOverEnds map query_path found.graph) _ (query_over_decides map query_path found.graph) (λ asked.
           then_decides (TemplatesEnd map templates_path) _ (templates_decides map templates_path) (λ templates.
-          gives_decides (inputs_with found query templates))))
+          gives_decides (inputs_with found asked templates))))

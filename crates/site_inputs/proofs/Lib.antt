@@ -6,6 +6,7 @@ pub mod Sites
 pub mod Decided
 pub mod DecidedInputs
 pub mod Endings
+pub mod MadeGraphs
 pub mod SiteData
 pub mod ReadLemmas
 pub mod SiteReads

@@ -3,7 +3,7 @@ use Rattle.std.proofs.Common.{ℕ, List, [], ◌∷◌, inl, inr}
 use Rattle.std.specs.Prelude.{Result, Err, Option, None, Some, ⊤}
 use Rattle.edge_io.specs.Files.{FileMap}
 use Rattle.graph_spec.specs.DataGraph.{DataGraph}
-use Rattle.query_spec.specs.Query as plain
+use Rattle.struql_orders.specs.Ordered.{Ordered}
 use Rattle.sd_graph.specs.Statement.{Building}
 use Rattle.data_source.specs.Rules.{rules_of}
 use Rattle.data_source.specs.declared.rules.SourceRules.{SourceRules}
@@ -14,7 +14,7 @@ use Rattle.command_spec.specs.Limits.{data_limit}
 use Rattle.command_spec.specs.declared.DataFiles.{DataFiles}
 use Rattle.site_inputs.specs.Sources.{TextTaken, SourceEnds, FilesEnd, GraphEnds, empty_building}
 use Rattle.command_spec.specs.Limits.{text_limit}
-use Rattle.site_inputs.specs.Sites.{DataInputsEnd, InputsEnd, QueryTaken, QueryEnds, SiteTaken, TemplatesTaken, TemplatesEnd}
+use Rattle.site_inputs.specs.Sites.{DataInputsEnd, InputsEnd, QueryTaken, QueryEnds, OrdersTaken, QueryOverEnds, SiteTaken, TemplatesTaken, TemplatesEnd}
 use Rattle.site_inputs.proofs.Sites.{inputs_with, InTurn, in_turn}
 
 -- a fault of a page, and not of an input
@@ -97,7 +97,7 @@ graph_none map b sources = files_none (rules_of sources.lenient) map b sources.p
 query_file_none : (map : FileMap) (path : List ℕ) → NoPageFault (QueryEnds map path)
 query_file_none map path = then_none (FileEnds text_limit map path) (QueryTaken path) (file_none text_limit map path) (λ bytes. query_none path bytes)
 
-site_none : (path : List ℕ) (raw : DataGraph) (first : plain.Query) → NoPageFault (SiteTaken path raw first)
+site_none : (path : List ℕ) (raw : DataGraph) (first : Ordered) → NoPageFault (SiteTaken path raw first)
 site_none path raw first = record { none = by }
   where
     by : (fault : Fault) → IsOfPage fault → SiteTaken path raw first (Err fault) → ⊥
@@ -116,6 +116,19 @@ data_none map sources (Some path) =
     (graph_none map empty_building sources)
     (λ raw. then_none (QueryEnds map path) (λ first. SiteTaken path raw first) (query_file_none map path) (λ first. site_none path raw first))
 
+orders_none : (path : List ℕ) (G : DataGraph) (query : Ordered) → NoPageFault (OrdersTaken path G query)
+orders_none path G query = record { none = by }
+  where
+    by : (fault : Fault) → IsOfPage fault → OrdersTaken path G query (Err fault) → ⊥
+    by (Faulty term kind) p e = e
+    by NotFound p e = e
+    by (Refused refusal) p e = p
+    by (Unread path) p e = p
+    by NoMemory p e = p
+
+query_over_none : (map : FileMap) (path : List ℕ) (G : DataGraph) → NoPageFault (QueryOverEnds map path G)
+query_over_none map path G = then_none (QueryEnds map path) (OrdersTaken path G) (query_file_none map path) (λ query. orders_none path G query)
+
 module _ (map : FileMap) (sources : DataFiles) (over : Option (List ℕ)) (query_path templates_path : List ℕ) where
   pub inputs_none : NoPageFault (InputsEnd map sources over query_path templates_path)
   inputs_none = record { none = λ fault p ended. in_turn_none.none fault p (in_turn map sources over query_path templates_path (Err fault) ended) }
@@ -123,11 +136,11 @@ module _ (map : FileMap) (sources : DataFiles) (over : Option (List ℕ)) (query
       in_turn_none : NoPageFault (InTurn map sources over query_path templates_path)
       in_turn_none =
           then_none (DataInputsEnd map sources over)
-          (λ found. Then (QueryEnds map query_path) (λ query. Then (TemplatesEnd map templates_path) (λ templates. EndsWith (inputs_with found query templates))))
+          (λ found. Then (QueryOverEnds map query_path found.graph) (λ asked. Then (TemplatesEnd map templates_path) (λ templates. EndsWith (inputs_with found asked templates))))
           (data_none map sources over)
-          (λ found. then_none (QueryEnds map query_path)
-          (λ query. Then (TemplatesEnd map templates_path) (λ templates. EndsWith (inputs_with found query templates)))
-          (query_file_none map query_path)
-          (λ query. then_none (TemplatesEnd map templates_path) (λ templates. EndsWith (inputs_with found query templates))
+          (λ found. then_none (QueryOverEnds map query_path found.graph)
+          (λ asked. Then (TemplatesEnd map templates_path) (λ templates. EndsWith (inputs_with found asked templates)))
+          (query_over_none map query_path found.graph)
+          (λ asked. then_none (TemplatesEnd map templates_path) (λ templates. EndsWith (inputs_with found asked templates))
           (then_none (FileEnds text_limit map templates_path) (TemplatesTaken templates_path) (file_none text_limit map templates_path) (λ bytes. templates_none templates_path bytes))
-          (λ templates. gives_none (inputs_with found query templates))))
+          (λ templates. gives_none (inputs_with found asked templates))))

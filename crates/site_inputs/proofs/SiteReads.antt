@@ -1,30 +1,26 @@
 -- Reads of a site's inputs.
-use Rattle.std.proofs.Common.{◌≡◌, ℕ, List, sym, subst}
-use Rattle.std.specs.Prelude.{Option, Result, Ok, Err}
+use Rattle.std.proofs.Common.{◌≡◌, ℕ, List, inl, refl, sym, subst}
+use Rattle.std.specs.Prelude.{Option, None, Result, Ok}
 use Rattle.edge_io.specs.Files.{FileMap}
 use Rattle.graph_spec.specs.DataGraph.{DataGraph}
-use Rattle.query_spec.specs.Query as plain
 use Rattle.happenings.specs.Happening.{Happening}
 use Rattle.command_spec.specs.Inputs.{data_paths}
 use Rattle.command_spec.specs.declared.DataFiles.{DataFiles}
 use Rattle.site_inputs.specs.declared.data.DataInputs.{DataInputs}
 use Rattle.site_inputs.specs.declared.fault.Fault.{Fault}
-use Rattle.site_inputs.specs.declared.fault.Fault.TheVariants.{Refused, Unread, Faulty, NotFound, NoMemory}
 use Rattle.site_inputs.specs.Reads.{Reads}
-use Rattle.site_inputs.specs.Sites.{SiteTaken, DataInputsEnd}
-use Rattle.site_inputs.proofs.ReadLemmas.{IsRead}
+use Rattle.site_inputs.specs.Sources.{GraphEnds, empty_building}
+use Rattle.site_inputs.specs.Sites.{DataInputsEnd}
+use Rattle.site_inputs.specs.Values.{data_result}
 
 -- the same of the first query that is given
 pub over_reads : (sources : DataFiles) (over is : Option (List ℕ)) (before now : List Happening) (contents : Option FileMap) (result : Result DataInputs Fault) → over ≡ is
-    → Reads (data_paths sources is) before now contents result (λ m. DataInputsEnd m sources is result) → Reads (data_paths sources over) before now contents result (λ m. DataInputsEnd m sources over result)
+    → Reads (data_paths sources is) before now contents result (λ m. DataInputsEnd m sources is (data_result result)) → Reads (data_paths sources over) before now contents result (λ m. DataInputsEnd m sources over (data_result result))
 over_reads sources over is before now contents result same h =
-    subst (λ (o : Option (List ℕ)). Reads (data_paths sources o) before now contents result (λ m. DataInputsEnd m sources o result)) (sym same) h
+    subst (λ (o : Option (List ℕ)). Reads (data_paths sources o) before now contents result (λ m. DataInputsEnd m sources o (data_result result))) (sym same) h
 
--- the first query's site reads no file
-pub site_is_read : (path : List ℕ) (raw : DataGraph) (first : plain.Query) (result : Result DataInputs Fault) → SiteTaken path raw first result → IsRead result
-site_is_read path raw first (Ok found) taken = tt
-site_is_read path raw first (Err (Refused refusal)) taken = tt
-site_is_read path raw first (Err (Unread unread)) taken = taken
-site_is_read path raw first (Err NoMemory) taken = tt
-site_is_read path raw first (Err NotFound) taken = tt
-site_is_read path raw first (Err (Faulty term kind)) taken = tt
+-- without a first query the data are what the data files state
+pub stated_alone : (map : FileMap) (sources : DataFiles) (over : Option (List ℕ)) (G : DataGraph) → over ≡ None → GraphEnds map empty_building sources (Ok G)
+    → DataInputsEnd map sources over (Ok (record { graph = G; first = None }))
+stated_alone map sources over G none stated =
+    subst (λ (o : Option (List ℕ)). DataInputsEnd map sources o (Ok (record { graph = G; first = None }))) (sym none) (record { value = G; first = stated; next = inl refl })

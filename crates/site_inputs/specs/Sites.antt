@@ -1,6 +1,6 @@
 -- The inputs of a site, taken in this order: the data, the query and the templates. The data are what the data files state
 -- or, where there is a first query, that query's site over it, seen as data.
-use Rattle.std.specs.Prelude.{◌≡◌, ◌⊎◌, ℕ, List, Result, Ok, Err, Option, Some, None, ⊤}
+use Rattle.std.specs.Prelude.{◌≡◌, ◌⊎◌, ℕ, List, Result, Ok, Err, Option, Some, None, ⊤, if◌then◌else◌}
 use Rattle.edge_io.specs.Files.{FileMap}
 use Rattle.command_spec.specs.Limits.{text_limit}
 use Rattle.command_spec.specs.declared.DataFiles.{DataFiles}
@@ -9,12 +9,13 @@ use Rattle.query_spec.specs.Query as plain
 use Rattle.tmpl.specs.Body.{TemplateFile}
 use Rattle.site_spec.specs.Site.{scope_of}
 use Rattle.weight_spec.specs.Site.{site_of}
-use Rattle.composed_data.specs.SiteData.{DecidesSiteData}
 use Rattle.page_spec.specs.Site.{Site}
 use Rattle.sd_graph.specs.declared.GraphRefusal.{GraphRefusal}
 use Rattle.sd_graph.specs.declared.GraphRefusal.TheVariants as over
-use Rattle.struql_ast.specs.declared.Query.{Query}
-use Rattle.struql_ast.specs.Written as written
+use Rattle.struql_orders.specs.declared.OrderedQuery as declared
+use Rattle.struql_orders.specs.Ordered.{OrderedQuery, Ordered}
+use Rattle.made_data.specs.Making.{Making, keeps_stated, OrderEnds, FirstEnds}
+use Rattle.order_spec.specs.Order.{Order}
 use Rattle.struql_parse.specs.declared.refusal.ParseRefusal.{ParseRefusal}
 use Rattle.struql_parse.specs.declared.refusal.ParseRefusal.TheVariants as parse
 use Rattle.struql_check.specs.declared.refusal.CheckRefusal.{CheckRefusal}
@@ -26,7 +27,6 @@ use Rattle.template_layouts.specs.declared.refusal.TmplRefusal.{TmplRefusal}
 use Rattle.template_layouts.specs.declared.refusal.TmplRefusal.TheVariants as templates
 use Rattle.template_reader.specs.Faults.{IsTemplatesAnswer}
 use Rattle.run_report.specs.declared.status.Place.TheVariants.{At}
-use Rattle.site_inputs.specs.declared.data.DataInputs.{DataInputs}
 use Rattle.site_inputs.specs.declared.fault.Fault.{Fault}
 use Rattle.site_inputs.specs.declared.fault.Fault.TheVariants.{Refused, NoMemory}
 use Rattle.site_inputs.specs.declared.fault.Refusal.{Refusal}
@@ -70,14 +70,14 @@ QueryRefused path e NoMemory = ⊤
 QueryRefused path e fault = ⊥
 
 -- How a query's text ends before it is checked: with the query that it spells, with its places, or refused.
-abbrev pub WrittenTaken : List ℕ → List ℕ → Result Query Fault → Type 0
+abbrev pub WrittenTaken : List ℕ → List ℕ → Result declared.OrderedQuery Fault → Type 0
 WrittenTaken path bytes (Ok query) = IsWritten text_limit bytes (Ok query)
 WrittenTaken path bytes (Err NoMemory) = ⊤
 WrittenTaken path bytes (Err fault) =
     (e : ParseRefusal) × IsWritten text_limit bytes (Err e) × QueryRefused path (NotSpelled e) fault
 
 -- How a query's text ends: with the checked query, or refused.
-abbrev pub QueryTaken : List ℕ → List ℕ → Result plain.Query Fault → Type 0
+abbrev pub QueryTaken : List ℕ → List ℕ → Result Ordered Fault → Type 0
 QueryTaken path bytes (Ok query) = IsAccepted text_limit bytes query
 QueryTaken path bytes (Err (Refused refusal)) =
     (told : NumberedFault) × (refusal ≡ record { file = path; number = told.number; place = At told.at })
@@ -86,20 +86,25 @@ QueryTaken path bytes (Err NoMemory) = ⊤
 QueryTaken path bytes (Err fault) = ⊥
 
 -- how every text ends that spells this query
-abbrev pub TextsTaken : List ℕ → written.Query → Result plain.Query Fault → Type 0
+abbrev pub TextsTaken : List ℕ → OrderedQuery → Result Ordered Fault → Type 0
 TextsTaken path query result =
     (bytes : List ℕ) → Spells text_limit bytes query → QueryTaken path bytes result
 
 -- How the file of a query ends: it is read, and then its text is taken.
-abbrev pub QueryEnds : FileMap → List ℕ → Result plain.Query Fault → Type 0
+abbrev pub QueryEnds : FileMap → List ℕ → Result Ordered Fault → Type 0
 QueryEnds map path = Then (FileEnds text_limit map path) (QueryTaken path)
 
 -- ---- the data
 
--- The graph of the first query's site over what the files state: there is one such graph, and the end says whether it is
--- within the program's limits.
-abbrev pub IsSiteGraph : DataGraph → plain.Query → Result DataGraph GraphRefusal → Type 0
-IsSiteGraph raw first end = DecidesSiteData empty_building.limits raw (scope_of first) end
+-- the data of a command, and the first query whose site they are, if there is one
+pub record CommandData : Type 0 where
+  pub graph : DataGraph
+  pub first : Option Ordered
+
+-- The graph of the first query's site over the graph that its ORDERs make of what the files state: there is one such
+-- graph, and the end says whether it is within the program's limits.
+abbrev pub IsSiteGraph : DataGraph → Ordered → Result DataGraph GraphRefusal → Type 0
+IsSiteGraph = FirstEnds
 
 -- the number of a graph that is over the limits; none where it was out of memory
 abbrev pub graph_number : GraphRefusal → Option ℕ
@@ -108,7 +113,7 @@ graph_number over.TooManyEdges = Some 11
 graph_number over.NoMemory = None
 
 -- the first query is refused, at its start, since its site is over the limits for this reason
-pub record IsTooLarge (path : List ℕ) (raw : DataGraph) (first : plain.Query)
+pub record IsTooLarge (path : List ℕ) (raw : DataGraph) (first : Ordered)
     (refusal : Refusal) : Type 0 where
   pub reason : GraphRefusal
   pub decided : IsSiteGraph raw first (Err reason)
@@ -117,12 +122,12 @@ pub record IsTooLarge (path : List ℕ) (raw : DataGraph) (first : plain.Query)
   pub place : refusal.place ≡ At 0
 
 -- the data are the site of this first query over what the files state
-pub record AreOfSite (raw : DataGraph) (first : plain.Query) (found : DataInputs) : Type 0 where
+pub record AreOfSite (raw : DataGraph) (first : Ordered) (found : CommandData) : Type 0 where
   pub decided : IsSiteGraph raw first (Ok found.graph)
   pub its : found.first ≡ Some first
 
 -- How a first query ends that was read and checked: with its site as the data, or refused.
-abbrev pub SiteTaken : List ℕ → DataGraph → plain.Query → Result DataInputs Fault → Type 0
+abbrev pub SiteTaken : List ℕ → DataGraph → Ordered → Result CommandData Fault → Type 0
 SiteTaken path raw first (Ok found) = AreOfSite raw first found
 SiteTaken path raw first (Err (Refused refusal)) = IsTooLarge path raw first refusal
 SiteTaken path raw first (Err NoMemory) = ⊤
@@ -130,13 +135,37 @@ SiteTaken path raw first (Err fault) = ⊥
 
 -- How the data end: the data files are taken, and then the first query, if there is one.
 abbrev pub DataInputsEnd
-    : FileMap → DataFiles → (first : Option (List ℕ)) → Result DataInputs Fault → Type 0
+    : FileMap → DataFiles → (first : Option (List ℕ)) → Result CommandData Fault → Type 0
 DataInputsEnd map sources None =
     Then (GraphEnds map empty_building sources)
     (λ raw. EndsWith (record { graph = raw; first = None }))
 DataInputsEnd map sources (Some path) =
     Then (GraphEnds map empty_building sources)
     (λ raw. Then (QueryEnds map path) (λ first. SiteTaken path raw first))
+
+-- ---- the query over the data
+
+-- a query, with the graph that its ORDERs make of the data
+pub record OverData : Type 0 where
+  pub graph : DataGraph
+  pub query : Ordered
+
+-- the query is refused, at its start, since its ORDERs make too large a graph
+abbrev pub GrowsTooLarge : List ℕ → List Order → DataGraph → Refusal → Type 0
+GrowsTooLarge path orders G refusal =
+    (refusal ≡ record { file = path; number = 11; place = At 0 })
+    × OrderEnds orders G (Err over.TooManyEdges)
+
+-- How an accepted query ends over data: with the graph that its ORDERs make of them, or refused.
+abbrev pub OrdersTaken : List ℕ → DataGraph → Ordered → Result OverData Fault → Type 0
+OrdersTaken path G query (Ok found) = OrderEnds query.orders G (Ok found.graph) × (found.query ≡ query)
+OrdersTaken path G query (Err (Refused refusal)) = GrowsTooLarge path query.orders G refusal
+OrdersTaken path G query (Err NoMemory) = ⊤
+OrdersTaken path G query (Err fault) = ⊥
+
+-- How the file of a query ends over data: it is read, and then its ORDERs make the graph that it is asked over.
+abbrev pub QueryOverEnds : FileMap → List ℕ → DataGraph → Result OverData Fault → Type 0
+QueryOverEnds map path G = Then (QueryEnds map path) (OrdersTaken path G)
 
 -- ---- the templates
 
@@ -175,24 +204,32 @@ TemplatesEnd map path = Then (FileEnds text_limit map path) (TemplatesTaken path
 
 -- ---- all three
 
--- what a site is made of: the data, the first query whose site they are, if there is one, the query and the templates
+-- what a site is made of: the data that the query is asked over, what is stated where edits are of that, what made the
+-- data, the query and the templates
 pub record Inputs : Type 0 where
   pub graph : DataGraph
-  pub first : Option plain.Query
+  pub stated : Option DataGraph
+  pub making : Making
   pub query : plain.Query
   pub templates : TemplateFile
 
--- their data
-abbrev pub data_of : Inputs → DataInputs
-data_of s = record { graph = s.graph; first = s.first }
+-- its query, with its ORDERs
+abbrev pub query_of : Inputs → Ordered
+query_of s = record { orders = s.making.orders; query = s.query }
 
 module _ (map : FileMap) (sources : DataFiles) (first : Option (List ℕ))
     (query_path templates_path : List ℕ) where
   -- The files spell these inputs: the data files, with the first query, if there is one, their data, and the other two
   -- files the query and the templates.
   pub record Spell (s : Inputs) : Type 0 where
-    pub data_are : DataInputsEnd map sources first (Ok (data_of s))
-    pub query_is : QueryEnds map query_path (Ok s.query)
+    pub found : CommandData
+    pub data_are : DataInputsEnd map sources first (Ok found)
+    pub its_first : found.first ≡ s.making.first
+    pub stated_is : s.stated ≡ (if keeps_stated s.making then Some found.graph else None)
+    pub query_is : QueryOverEnds map query_path found.graph (Ok (record {
+      graph = s.graph;
+      query = query_of s;
+    }))
     pub templates_are : TemplatesEnd map templates_path (Ok s.templates)
 
   -- The files spell no inputs, and this is the first fault in them: that of the data, or after data of the query, or after
@@ -200,10 +237,11 @@ module _ (map : FileMap) (sources : DataFiles) (first : Option (List ℕ))
   abbrev pub Refuse : Fault → Type 0
   Refuse fault =
       DataInputsEnd map sources first (Err fault)
-      ⊎ ((found : DataInputs) × DataInputsEnd map sources first (Ok found)
-      × QueryEnds map query_path (Err fault))
-      ⊎ ((found : DataInputs) × (query : plain.Query)
-      × DataInputsEnd map sources first (Ok found) × QueryEnds map query_path (Ok query)
+      ⊎ ((found : CommandData) × DataInputsEnd map sources first (Ok found)
+      × QueryOverEnds map query_path found.graph (Err fault))
+      ⊎ ((found : CommandData) × (over : OverData)
+      × DataInputsEnd map sources first (Ok found)
+      × QueryOverEnds map query_path found.graph (Ok over)
       × TemplatesEnd map templates_path (Err fault))
 
   -- the one or the other

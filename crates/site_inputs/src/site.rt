@@ -1,6 +1,6 @@
 // The inputs of a site, each read and decoded before the next.
-ghost use Rattle.std.specs.Prelude.{◌≡◌, ◌≤◌, ◌^◌, ◌∷◌, [], ℕ, List, Err, IfErr, IfOk, length};
-ghost use Rattle.std.specs.Option.{ForSome};
+ghost use Rattle.std.specs.Prelude.{◌≡◌, ◌≤◌, ◌^◌, ◌∷◌, [], ℕ, List, Err, IfErr, IfOk, None, length, if◌then◌else◌};
+ghost use Rattle.std.specs.Option.{ForSome, is_none};
 ghost use Rattle.site_inputs.specs.Reads.{Reads};
 ghost use Rattle.site_inputs.specs.Runs.{ReadsHaveCause};
 ghost use Rattle.command_spec.specs.Inputs.{data_paths, input_paths};
@@ -8,24 +8,26 @@ ghost use Rattle.site_inputs.specs.Sites.{QueryRefused, WrittenTaken, TextsTaken
 ghost use Rattle.command_spec.specs.Limits.{text_limit};
 ghost use Rattle.struql_ast.specs.Reading.{query_of};
 ghost use Rattle.template_reader.specs.Faults.{AreItemsOf};
-ghost use Rattle.struql_ast.specs.Written.{query_written};
+ghost use Rattle.struql_orders.specs.Ordered.{ordered_written};
 ghost use Rattle.struql_check.specs.Parsed.{IsParsed};
-ghost use Rattle.site_inputs.specs.Values.{file_result, inputs_result};
+ghost use Rattle.site_inputs.specs.Values.{file_result, taken_result, inputs_result};
 
 use crate::data::load_data;
 use crate::fault::{Fault, refused};
 use crate::inputs::read_file;
+use crate::over::load_query_over;
 use crate::told::{told_of_query, told_of_templates};
 use command_spec::{DataFiles, TEXT_LIMIT};
 use edge_io::Files;
 use happenings::Trace;
-use query_reader::{QueryRefusal, check_written, read_written};
+use made_data::Making;
+use query_reader::{OrderedChecked, QueryRefusal, check_written, read_written};
 use run_report::Place;
 use sd_graph::Graph;
 use sd_value::{NoMemory, Str};
 use std::alloc::Global;
-use struql_ast::Query;
 use struql_check::Checked;
+use struql_orders::OrderedQuery;
 use template_items::Item;
 use template_reader::{TmplRefusal, read_items, templates_of};
 use tmpl::Templates;
@@ -33,10 +35,12 @@ use tmpl::Templates;
 /// What a site is made of.
 #[derive(Drop)]
 pub struct SiteInputs {
-    /// The data.
+    /// The data that the query is asked over.
     pub graph: Graph,
-    /// The first query, if the data are its site.
-    pub first: Option<Checked>,
+    /// What is stated, where edits are of it.
+    pub stated: Option<Graph>,
+    /// What made the data of what the data files state.
+    pub making: Making,
     pub query: Checked,
     pub templates: Templates,
 }
@@ -54,7 +58,7 @@ fn refused_query(alloc: Global, path: &Str, refusal: &QueryRefusal) -> Fault
 /// The query that a text spells, with the places of its parts, before it is checked.
 /// # Errors
 /// A text that is refused, with the file's path, or out of memory.
-pub fn take_written(alloc: Global, path: &Str, bytes: &[u8]) -> Result<Query, Fault>
+pub fn take_written(alloc: Global, path: &Str, bytes: &[u8]) -> Result<OrderedQuery, Fault>
     ensures { WrittenTaken path.now bytes.now result }
 {
     match read_written(alloc, bytes, TEXT_LIMIT) {
@@ -69,9 +73,9 @@ pub fn take_written(alloc: Global, path: &Str, bytes: &[u8]) -> Result<Query, Fa
 /// The checked query of a text, of which this is the written one.
 /// # Errors
 /// The query's first fault, with the file's path, or out of memory.
-pub fn take_checked(alloc: Global, path: &Str, query: Query) -> Result<Checked, Fault>
-    requires { IsParsed (query_of query) }
-    ensures { TextsTaken path.now (query_written query) result }
+pub fn take_checked(alloc: Global, path: &Str, query: OrderedQuery) -> Result<OrderedChecked, Fault>
+    requires { IsParsed (query_of query.query) }
+    ensures { TextsTaken path.now (ordered_written query) (taken_result result) }
 {
     match check_written(alloc, query) {
         Ok(query) => Ok(query),
@@ -82,8 +86,8 @@ pub fn take_checked(alloc: Global, path: &Str, query: Query) -> Result<Checked, 
 /// The checked query that a text spells.
 /// # Errors
 /// A text that is refused, with the file's path, or out of memory.
-pub fn take_query(alloc: Global, path: &Str, bytes: &[u8]) -> Result<Checked, Fault>
-    ensures { QueryTaken path.now bytes.now result }
+pub fn take_query(alloc: Global, path: &Str, bytes: &[u8]) -> Result<OrderedChecked, Fault>
+    ensures { QueryTaken path.now bytes.now (taken_result result) }
 {
     let query = take_written(alloc, path, bytes)?;
     take_checked(alloc, path, query)
@@ -92,11 +96,16 @@ pub fn take_query(alloc: Global, path: &Str, bytes: &[u8]) -> Result<Checked, Fa
 /// The checked query of a file.
 /// # Errors
 /// A query that is refused or unread, or out of memory.
-pub fn load_query<F: Files>(alloc: Global, files: &mut F, path: &Str) -> Result<Checked, Fault>
+pub fn load_query<F: Files>(
+    alloc: Global,
+    files: &mut F,
+    path: &Str,
+) -> Result<OrderedChecked, Fault>
     ensures traced { Reads (path.now ∷ []) (F.trace files.old) (F.trace files.new)
         (F.contents files.old) result
-        (λ map. QueryEnds map path.now result) }
-    ensures ends { ForSome (F.contents files.old) (λ map. QueryEnds map path.now result) }
+        (λ map. QueryEnds map path.now (taken_result result)) }
+    ensures ends { ForSome (F.contents files.old)
+        (λ map. QueryEnds map path.now (taken_result result)) }
     ensures same { F.contents files.new ≡ F.contents files.old }
     ensures cause { ReadsHaveCause (path.now ∷ [])
         (F.failed_reads files.old) (F.failed_reads files.new) result }
@@ -169,9 +178,17 @@ fn load_templates<F: Files>(alloc: Global, files: &mut F, path: &Str) -> Result<
     take_templates(alloc, path, bytes.bytes())
 }
 
+// What edits are of, where it is not the data: what is stated, where there is no first query.
+fn edited_data(first: &Option<OrderedChecked>, stated: Option<Graph>) -> Option<Graph>
+    ensures { result ≡ (if is_none first.now then stated else None) }
+{
+    if first.is_none() { stated } else { None }
+}
+
 /// The data files, the first query, if there is one, the query and the templates, in this order.
 /// # Errors
-/// The first of these files that is refused or unread, as `load_data` refuses a first query for its site; or out of memory.
+/// The first of these files that is refused or unread, as `load_data` refuses a first query for its site, and `take_over` the
+/// query for its ORDERs; or out of memory.
 pub fn load_inputs<F: Files>(
     alloc: Global,
     files: &mut F,
@@ -192,12 +209,18 @@ pub fn load_inputs<F: Files>(
     ensures writes { F.failed_writes files.new ≡ F.failed_writes files.old }
 {
     let data = load_data(alloc, files, sources, over)?;
-    let query = load_query(alloc, files, query)?;
+    let over = load_query_over(alloc, files, query, data.graph)?;
     let templates = load_templates(alloc, files, templates)?;
-    Ok(SiteInputs {
-        graph: data.graph,
+    let stated = edited_data(&data.first, over.stated);
+    let making = Making {
         first: data.first,
-        query,
+        orders: over.orders,
+    };
+    Ok(SiteInputs {
+        graph: over.graph,
+        stated,
+        making,
+        query: over.query,
         templates,
     })
 }

@@ -5,23 +5,27 @@
 ghost use Rattle.std.specs.Prelude.{◌≡◌, IfOk, false, map};
 ghost use Rattle.tmpl.specs.Reading.{file_of};
 ghost use Rattle.query_blocks.specs.Blocks.{AreCheckedBlocks, scope_of};
+ghost use Rattle.edit_spec.specs.Edited.{IsOfData};
+ghost use Rattle.order_spec.specs.Read.{order_of};
+ghost use Rattle.made_data.specs.Making.{making_of};
 ghost use Rattle.site_pages.specs.Rules.{TextRules, the_rules};
-ghost use Rattle.site_pages.specs.Texts.{Current, current_site, current_templates, data_texts};
+ghost use Rattle.site_pages.specs.Texts.{Current, current_site, current_templates, data_texts, IsRemadeOf};
 
 mod live;
 mod made;
 
-use data_texts::{RunText, read_run_text, spared};
+use data_texts::{RunText, read_run_text, remade, spared};
 use edit_spec::Edit;
 pub use made::PageSource;
 use made::{MadePages, pages_after, pages_over};
+use made_data::{Made, Making};
+use order_spec::Order;
 use page_spec::Outcome;
 use query_blocks::QueryBlocks;
 use sd_graph::{Graph, GraphBuilder, PROGRAM_LIMITS};
 use sd_value::{NoMemory, Str, Term};
 use site_view::Pages;
 use std::alloc::Global;
-use struql_check::Checked;
 use tmpl::Templates;
 use versions::{Changed, Same, Versions};
 
@@ -30,8 +34,10 @@ use versions::{Changed, Same, Versions};
 pub struct SitePages<'q> {
     pages: MadePages<'q>,
     source: PageSource,
-    // Of whose site the data are the graph.
-    first: &'q Option<Checked>,
+    // What makes the data of what a text states.
+    making: &'q Making,
+    // What is stated, where edits are of it and not of the data.
+    stated: Option<Graph>,
     scopes: &'q QueryBlocks,
     templates: &'q Templates,
 }
@@ -51,35 +57,55 @@ impl<'q> SitePages<'q> {
     ghost use Rattle.std.specs.Prelude.{◌≡◌, IfOk};
     ghost use Rattle.tmpl.specs.Reading.{file_of};
     ghost use Rattle.query_blocks.specs.Blocks.{AreCheckedBlocks, scope_of};
+    ghost use Rattle.made_data.specs.Making.{making_of};
 
-    /// The pages over these data. With a first query, texts make the graph of its site.
+    /// The pages over these data. Texts make what this makes of what they state.
     pub fn of(
         alloc: Global,
-        graph: Graph,
-        first: &'q Option<Checked>,
+        made: Made,
+        making: &'q Making,
         scopes: &'q QueryBlocks,
         templates: &'q Templates,
         source: PageSource,
     ) -> Result<SitePages<'q>, NoMemory>
         requires { AreCheckedBlocks scopes.now.version scopes.now.blocks.items }
         ensures state { IfOk result (λ pages. ⟦<SitePages<'q> as Versions>⟧.state pages ≡ record {
-          first = first.now;
+          making = making_of making.now;
+          stated = made.stated;
           pages = record {
-            graph = graph;
+            graph = made.graph;
             scope = scope_of scopes.now;
             templates = file_of templates.now;
           };
         }) }
         ensures own { IfOk result (λ pages. ⟦<SitePages<'q> as Versions>⟧.Own pages) }
     {
+        let Made { graph, stated } = made;
         let pages = pages_over(alloc, graph, scopes, templates, source)?;
         Ok(SitePages {
             pages,
             source,
-            first,
+            making,
+            stated,
             scopes,
             templates,
         })
+    }
+}
+
+// The data that ORDERs make anew after an edit of what is stated, if that is kept.
+fn remade_data(
+    alloc: Global,
+    stated: &Option<Graph>,
+    edit: &Edit,
+    orders: &[Order],
+) -> Result<Option<Made>, NoMemory>
+    requires { IsOfData edit.now }
+    ensures { IfOk result (IsRemadeOf (map order_of orders.now) edit.now stated.now) }
+{
+    match stated {
+        Some(stated) => remade(alloc, stated, edit, orders),
+        None => Ok(None),
     }
 }
 
@@ -107,21 +133,53 @@ impl<'q> SitePages<'q> {
     ghost use Rattle.data_texts.specs.Edits.{edited, is_taken};
     ghost use Rattle.site_pages.specs.Rules.{the_rules};
     ghost use Rattle.versions.specs.Changes.{TellsEach};
-    ghost use Rattle.site_pages.specs.Texts.{edit_stays, over_data};
+    ghost use Rattle.site_pages.specs.Texts.{over_data, over_made, after_remade, takes_remade};
+    ghost use Rattle.site_pages.specs.Texts.{after_edit, takes_edit, spares_page, edit_stays};
 
     // Takes other data. The new ones are indexed before the old ones go, and so is the site made whole, where pages come
     // from it.
-    fn take_data(&mut self, alloc: Global, graph: Graph, kept: &[Term]) -> Result<Changed, NoMemory>
+    fn take_data(&mut self, alloc: Global, made: Made, kept: &[Term]) -> Result<Changed, NoMemory>
         requires own { ⟦<SitePages<'q> as Versions>⟧.Own self.old }
         ensures own { ⟦<SitePages<'q> as Versions>⟧.Own self.new }
         ensures state { IfOk result (λ c. ⟦<SitePages<'q> as Versions>⟧.state self.new
-            ≡ over_data (⟦<SitePages<'q> as Versions>⟧.state self.old) graph) }
+            ≡ over_made (⟦<SitePages<'q> as Versions>⟧.state self.old) made.stated made.graph) }
         ensures taken { IfOk result (λ c. c ≡ Changed.Refused → ⊥) }
         ensures flags { IfOk result (TellsEach (λ t. false) kept.now) }
     {
         let flags = none_stays(alloc, kept)?;
+        let Made { graph, stated } = made;
         self.pages = pages_over(alloc, graph, self.scopes, self.templates, self.source)?;
+        self.stated = stated;
         Ok(Changed::Taken(Same { flags }))
+    }
+
+    // Makes an edit of what is stated, where there is room, and the data anew.
+    fn take_remade(
+        &mut self,
+        alloc: Global,
+        edit: &Edit,
+        kept: &[Term],
+    ) -> Result<Changed, NoMemory>
+        requires own { ⟦<SitePages<'q> as Versions>⟧.Own self.old }
+        requires of_data { IsOfData edit.now }
+        ensures own { ⟦<SitePages<'q> as Versions>⟧.Own self.new }
+        ensures state { IfOk result (λ c. ⟦<SitePages<'q> as Versions>⟧.state self.new
+            ≡ after_remade (⟦<SitePages<'q> as Versions>⟧.state self.old)
+            (⟦<SitePages<'q> as Versions>⟧.state self.old).making.orders (Some edit.now)
+            (⟦<SitePages<'q> as Versions>⟧.state self.old).stated) }
+        ensures refused { IfOk result (λ c. (c ≡ Changed.Refused) ↔ (takes_remade
+            (⟦<SitePages<'q> as Versions>⟧.state self.old).making.orders (Some edit.now)
+            (⟦<SitePages<'q> as Versions>⟧.state self.old).stated ≡ false)) }
+        ensures flags { IfOk result (TellsEach (λ t. false) kept.now) }
+    {
+        let made = remade_data(alloc, &self.stated, edit, &self.making.orders)?;
+        match made {
+            Some(made) => self.take_data(alloc, made, kept),
+            None => {
+                // There is no room for it, or nothing is stated.
+                Ok(Changed::Refused)
+            }
+        }
     }
 
     // Makes an edit, where there is room for the graph after it.
@@ -134,7 +192,7 @@ impl<'q> SitePages<'q> {
             (⟦<SitePages<'q> as Versions>⟧.state self.old).pages.graph)) }
         ensures refused { IfOk result (λ c. (c ≡ Changed.Refused) ↔ (is_taken (Some edit.now)
             (⟦<SitePages<'q> as Versions>⟧.state self.old).pages.graph ≡ false)) }
-        ensures flags { IfOk result (TellsEach (edit_stays the_rules
+        ensures flags { IfOk result (TellsEach (spares_page the_rules
             (⟦<SitePages<'q> as Versions>⟧.state self.old) (Some edit.now)) kept.now) }
     {
         let flags = spared(alloc, self.scopes, self.templates, edit, kept)?;
@@ -167,15 +225,20 @@ impl<'q> SitePages<'q> {
         requires of_data { IfSome edit.now IsOfData }
         ensures own { ⟦<SitePages<'q> as Versions>⟧.Own self.new }
         ensures state { IfOk result (λ c. ⟦<SitePages<'q> as Versions>⟧.state self.new
-            ≡ over_data (⟦<SitePages<'q> as Versions>⟧.state self.old)
-            (edited edit.now (⟦<SitePages<'q> as Versions>⟧.state self.old).pages.graph)) }
-        ensures refused { IfOk result (λ c. (c ≡ Changed.Refused) ↔ (is_taken
-            edit.now (⟦<SitePages<'q> as Versions>⟧.state self.old).pages.graph ≡ false)) }
+            ≡ after_edit (⟦<SitePages<'q> as Versions>⟧.state self.old) edit.now) }
+        ensures refused { IfOk result (λ c. (c ≡ Changed.Refused) ↔ (takes_edit
+            (⟦<SitePages<'q> as Versions>⟧.state self.old) edit.now ≡ false)) }
         ensures flags { IfOk result (TellsEach (edit_stays the_rules
             (⟦<SitePages<'q> as Versions>⟧.state self.old) edit.now) kept.now) }
     {
         match edit {
-            Some(edit) => self.take_edit(alloc, edit, kept),
+            Some(edit) => {
+                if self.making.keeps_stated() {
+                    self.take_remade(alloc, edit, kept)
+                } else {
+                    self.take_edit(alloc, edit, kept)
+                }
+            }
             None => Ok(Changed::Refused),
         }
     }
@@ -187,7 +250,8 @@ impl<'q> Versions for SitePages<'q> {
     ghost Cache = { Unit {0} };
 
     ghost state = { λ s. record {
-      first = s.first.now;
+      making = making_of s.making.now;
+      stated = s.stated;
       pages = ⟦<MadePages<'q> as Pages>⟧.fixed s.pages;
     } };
 
@@ -222,8 +286,9 @@ impl<'q> Versions for SitePages<'q> {
 
     /// A text that states data replaces them all. Any other may be an edit of them.
     fn change(&mut self, alloc: Global, text: &Str, kept: &[Term]) -> Result<Changed, NoMemory> {
-        match read_run_text(alloc, text, self.first)? {
-            RunText::Data(graph) => self.take_data(alloc, graph, kept),
+        let read = read_run_text(alloc, text, self.making)?;
+        match read {
+            RunText::Data(made) => self.take_data(alloc, made, kept),
             RunText::Other(edit) => self.take_text_edit(alloc, &edit, kept),
         }
     }

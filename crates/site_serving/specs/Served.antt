@@ -17,7 +17,8 @@ use Rattle.site_pages.specs.Texts.{Current, current_site, current_templates, dat
 -- what is current before the first text
 abbrev pub first_data : Inputs → Current
 first_data s = record {
-  first = s.first;
+  making = s.making;
+  stated = s.stated;
   pages = record { graph = s.graph; scope = scope_of s.query; templates = s.templates };
 }
 

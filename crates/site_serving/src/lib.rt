@@ -11,6 +11,7 @@ ghost use Rattle.site_pages.specs.Rules.{the_rules};
 ghost use Rattle.site_serving.specs.Served.{ServesSite, ServesSiteBy, ServesSiteInSteps, StepsBy};
 
 use command_spec::RunLimits;
+use made_data::Made;
 use query_blocks::{QueryBlocks, root_of};
 use query_scoping::scopes;
 use sd_value::{NoMemory, Str};
@@ -71,8 +72,11 @@ fn serve_inputs<W: Wire>(
     };
     let pages = SitePages::of(
         alloc,
-        inputs.graph,
-        &inputs.first,
+        Made {
+            graph: inputs.graph,
+            stated: inputs.stated,
+        },
+        &inputs.making,
         &scopes,
         &inputs.templates,
         source,
@@ -90,10 +94,10 @@ fn serve_inputs<W: Wire>(
 }
 
 /// Serves the pages of the site of the query over the data to the connections of a wire, within the limits. The data that an
-/// accepted data text makes replace all data; with a first query these are the graph of its site over the data that the
-/// text states. Without one an edit for whose graph there is room is made of the current data, and the kept pages that it
-/// can touch are dropped, and no others. Any other text changes nothing. Whatever the pages are made from, their bytes are
-/// the same. It never calls `listen` and `watch`.
+/// accepted data text makes replace all data: what it states or, with a first query, the graph of that one's site over it, in
+/// the order of the query's ORDERs. Without a first query an edit for whose graphs there is room is made of what is stated.
+/// Where there are no ORDERs exactly the kept pages are dropped that it can touch, and else all. Any other text changes nothing.
+/// Whatever the pages are made from, their bytes are the same. It never calls `listen` and `watch`.
 pub fn serve_site<W: Wire>(
     alloc: Global,
     inputs: SiteInputs,

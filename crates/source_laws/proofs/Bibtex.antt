@@ -5,7 +5,7 @@ use Rattle.std.specs.Str.{bytes_eq}
 use Rattle.grammar.specs.Reading.{Outcome, Read, Stuck, Past, starts}
 use Rattle.graph_spec.specs.DataGraph.{Name}
 use Rattle.sd_graph.specs.Statement.{Building}
-use Rattle.sd_graph.specs.Stating.{Ending, done, fault, too_many_nodes, too_many_edges, no_memory, Ends}
+use Rattle.sd_graph.specs.Stating.{fails, Ending, done, fault, too_many_nodes, too_many_edges, no_memory, Ends}
 use Rattle.bibtex_spec.specs.declared.Field.{Field}
 use Rattle.bibtex_spec.specs.declared.Item.{Item}
 use Rattle.bibtex_spec.specs.declared.Item.TheVariants.{Passes, Defines, Enters}
@@ -14,10 +14,10 @@ use Rattle.bibtex_spec.specs.Macros.{MacroTexts, text_of, months}
 use Rattle.bibtex_spec.specs.Reading.{read_item}
 use Rattle.bibtex_source.specs.declared.rules.BibRules.{BibRules}
 use Rattle.bibtex_source.specs.declared.refusal.BibRefusal.{BibRefusal}
-use Rattle.bibtex_source.specs.declared.refusal.BibRefusal.TheVariants.{TooDeep, TooManyEdges, TooManyNodes, NoMemory}
+use Rattle.bibtex_source.specs.declared.refusal.BibRefusal.TheVariants.{Expected, TooDeep, TooManyEdges, TooManyNodes, NoMemory}
 use Rattle.bibtex_source.specs.Source.{Source, all_fields, own_bytes}
 use Rattle.bibtex_source.specs.Text.{BibStep, text_step, node_step, texts_steps, field_steps, fields_steps, byline_steps, bytes_steps, shown_steps, item_steps, macros_behind, macro_fault, limit_fault}
-use Rattle.bibtex_source.specs.Text.{read_steps, marked_steps, steps_within, text_by, source_in, text_steps, bib_ending}
+use Rattle.bibtex_source.specs.Text.{read_steps, marked_steps, steps_within, is_no_bibliography, items_steps, read_by, text_by, source_in, text_steps, bib_ending}
 use Rattle.bibtex_source.specs.Readable.{field_texts, byline}
 use Rattle.bibtex_source.specs.Reads.{Reads}
 use Rattle.source_laws.proofs.Steps.{FailAs, fail_append, fail_choice, IsToldAs, ended}
@@ -110,8 +110,12 @@ module _ (rules : BibRules) (stem : Name) (bytes : List ℕ) (b : Building) wher
   of_ending c (too_many_edges k) told h = (c, Err (TooManyEdges k), (λ none. cc), h)
   of_ending c no_memory told h = absurd told
 
+  read_by_fails : (text : List ℕ) → FailAs IsItself (read_by rules stem bytes text)
+  read_by_fails text =
+      fail_choice IsItself (is_no_bibliography rules text) (fails (Expected 0) ∷ []) (items_steps (source_in rules bytes text) stem (months rules.names) text) (refl, tt)
+      (within_fails (source_in rules bytes text) stem (length text) (length text) (months rules.names) text)
+
   pub bibtex_answer : HasAnswer
   bibtex_answer =
-      let text = text_by rules bytes in
-      let e = ended IsItself b (text_steps rules stem bytes) (within_fails (source_in rules bytes text) stem (length text) (length text) (months rules.names) text) in
+      let e = ended IsItself b (text_steps rules stem bytes) (read_by_fails (text_by rules bytes)) in
       of_ending e.0 e.1 e.2 e.3

@@ -1,5 +1,5 @@
 -- The top of a query, with its readers.
-use Rattle.std.proofs.Common.{◌≡◌, ℕ, Bool, true, false, cond, nat_eq, List, [], ◌∷◌, length, ◌<◌, Option, Some, None, refl, sym, ap, ◌∙◌, inl, inr}
+use Rattle.std.proofs.Common.{◌≡◌, ℕ, Bool, true, false, cond, nat_eq, List, [], ◌∷◌, length, ◌<◌, Option, Some, None, refl, sym, ap, ◌∙◌, inl, inr, subst, append_assoc, ◌++◌}
 use Rattle.std.specs.Prelude.{◌||◌, codes, pos}
 use Rattle.std.specs.Str.{bytes_eq}
 use Rattle.std.specs.Ordering.{int_eq}
@@ -11,8 +11,9 @@ use Rattle.sd_lex.specs.declared.token.TokenKind.{TokenKind}
 use Rattle.sd_lex.specs.declared.token.TokenKind.TheVariants as kinds
 use Rattle.sd_lex.specs.declared.token.Sign.{Sign}
 use Rattle.sd_lex.specs.declared.token.Sign.TheVariants as signs
-use Rattle.grammar.specs.Grammar.{one, either, iterated}
-use Rattle.grammar.proofs.Parts.{Opens, opens_one, opens_then, opens_either, Part, ◌>>=◌, give_part, one_part, then_part, then_opens, weaken_part, either_part, bar_part, iterate_part, part_within, finish_part, shrinks}
+use Rattle.grammar.specs.Grammar as grammar
+use Rattle.grammar.specs.Grammar.{nothing, one, either, iterated}
+use Rattle.grammar.proofs.Parts.{first_is, iterated_follow, Opens, opens_one, opens_then, opens_either, Part, ◌>>=◌, give_part, one_part, then_part, then_opens, weaken_part, either_part, bar_part, iterate_part, part_within, finish_part, shrinks}
 use Rattle.grammar.specs.Reading.{Outcome, Read, starts, take_one, iterate}
 use Rattle.grammar.proofs.Laws.{Always, AtEnd, Stops}
 use Rattle.struql_text.specs.declared.keyword.Keyword.{Keyword}
@@ -20,7 +21,10 @@ use Rattle.struql_text.specs.declared.keyword.Keyword.TheVariants as words
 use Rattle.struql_text.specs.Terminals.{from_to, is_keyword, is_keyword_kind, is_found, keyword_of, is_head, is_head_kind, head_value, version_value, version_kind_value, other_version_value, is_other_version, is_other_kind}
 use Rattle.token_reader.specs.Terminals.{is_sign, number}
 use Rattle.struql_text.specs.Expression.{sign, keyword}
-use Rattle.struql_text.specs.Grammar.{listed, term, link, collect, condition}
+use Rattle.order_spec.specs.Order.{Order}
+use Rattle.struql_orders.specs.Ordered.{OrderedQuery}
+use Rattle.struql_orders.proofs.Parts.{orders_part}
+use Rattle.struql_text.specs.Grammar.{name, listed, term, link, collect, condition}
 use Rattle.struql_parse.specs.Blocks.{Body, body, Groups, no_groups, grouped, Item, conditions_item, creates_item, links_item, collects_item, join, nest, levels, item, placed, top_braces, item_step, version, head, query_within, query_spelled}
 use Rattle.struql_text.specs.Reading.{read_keyword, read_condition, read_term, read_link, read_collect}
 use Rattle.struql_parse.specs.Reading.{read_body, read_block, read_item, read_top_braces, read_item_step, begins_item, read_version, read_head, read_query}
@@ -320,6 +324,30 @@ head_part =
     head_if true p q e = refl
     head_if false p q e = absurd cc
 
+-- ---- what comes after the ORDERs
+
+no_order : (t : Token) → begins_item t ≡ true → is_keyword words.Order t ≡ false
+no_order t =
+    either_way (is_keyword words.Where t) (is_keyword words.Create t || third t) _ (other_keyword words.Where words.Order t.kind refl)
+    (either_way (is_keyword words.Create t) (third t) _ (other_keyword words.Create words.Order t.kind refl)
+    (either_way (is_keyword words.Link t) (fourth t) _ (other_keyword words.Link words.Order t.kind refl)
+    (either_way (is_keyword words.Collect t) (is_sign signs.OpenBrace t) _ (other_keyword words.Collect words.Order t.kind refl) (sign_no_keyword signs.OpenBrace words.Order t.kind))))
+
+-- items, and then what OUTPUT opens, open with no ORDER
+after_orders : {A : Type 0} (n : ℕ) (Q : Groups → List Token → A → Type 0) → ((g : Groups) → Opens (Q g) (λ t. is_keyword words.Output t ≡ true))
+    → (y : List Token) (w : A) (rest : List Token) → grammar.◌>>=◌ (iterated (item_step n S (inner_spelled n)) no_groups) Q y w → Stops (is_keyword words.Order) (y ++ rest)
+after_orders n Q opens y w rest h =
+    let last : Begins (is_keyword words.Output) (h.1 ++ rest) = first_is (Q h.2) (is_keyword words.Output) true (opens h.2) h.1 w rest h.5 in
+    subst (Stops (is_keyword words.Order)) (sym (ap (λ x. x ++ rest) h.3 ∙ append_assoc h.0 h.1 rest))
+    (iterated_follow (item_step n S (inner_spelled n)) begins_item (Begins (is_keyword words.Output)) (Stops (is_keyword words.Order)) (item_step_opens n) (λ t later is. no_order t is)
+    (stops_by (is_keyword words.Output) (is_keyword words.Order) (λ t. other_keyword words.Output words.Order t.kind refl)) h.0 no_groups h.2 (h.1 ++ rest) h.4 last)
+
+-- OUTPUT, its name, and the end
+abbrev ending : ℕ → List ℕ → List Order → Groups → List Token → OrderedQuery → Type 0
+ending n input os groups =
+    grammar.◌>>=◌ (keyword words.Output) (λ _. grammar.◌>>=◌ (name n)
+    (λ output. nothing (record { orders = os; query = record { version = n; input = input; blocks = grouped groups; output = output.text } })))
+
 -- a query within the limits, and at all
 pub query_part : Part IsReal query_within query_spelled AtEnd read_query
 unfolding read_query
@@ -328,13 +356,15 @@ query_part =
     (λ n. do
       _ ← keyword_part words.Input (codes "INPUT") is_input (refl, (refl, (refl, (refl, (refl, tt)))))
       input ← name_part n
-      then_opens (λ t. is_keyword words.Output t ≡ true) (items_part n)
+      then_part (orders_part n)
+          (λ os. then_opens (λ t. is_keyword words.Output t ≡ true) (items_part n)
           (λ groups. do
             _ ← keyword_part words.Output (codes "OUTPUT") is_output (refl, (refl, (refl, (refl, (refl, (refl, tt))))))
             output ← name_part n
-            finish_part (record { version = n; input = input.text; blocks = grouped groups; output = output.text }))
+            finish_part (record { orders = os; query = record { version = n; input = input.text; blocks = grouped groups; output = output.text } }))
           (λ groups. opens_then (keyword words.Output) _ _ (keyword_opens words.Output _ (λ t is. is)))
           (λ t later is. is))
+          (λ os y w rest h f. after_orders n (ending n input.text os) (λ groups. opens_then (keyword words.Output) _ _ (keyword_opens words.Output _ (λ t is. is))) y w rest h))
     (λ n. opens_then (keyword words.Input) _ _ (keyword_opens words.Input _ (λ t is. is)))
     (λ t later is. is)
 

@@ -4,7 +4,7 @@ use Rattle.sd_lex.specs.declared.token.Token.{Token}
 use Rattle.sd_lex.specs.declared.refusal.LexRefusal.{LexRefusal}
 use Rattle.sd_lex.specs.declared.refusal.LexRefusal.TheVariants as lexer
 use Rattle.sd_lex.specs.Lexing.{GivesTokens, IsTextOrFault}
-use Rattle.struql_ast.specs.Written.{Query}
+use Rattle.struql_orders.specs.Ordered.{OrderedQuery}
 use Rattle.token_reader.specs.declared.refusal.TextRefusal.TheVariants as text
 use Rattle.struql_parse.specs.declared.refusal.ParseRefusal.{ParseRefusal}
 use Rattle.struql_parse.specs.declared.refusal.ParseRefusal.TheVariants.{Text, TooDeep, BadVersion}
@@ -14,14 +14,14 @@ use Rattle.struql_parse.specs.Stated.{States, IsOnly}
 use Rattle.struql_parse.specs.Text.{TextStates, TextGives}
 use Rattle.struql_parse.proofs.Whole.{is_within}
 
-pub no_tokens : (e : LexRefusal) (tokens : List Token) (query : Query) → GivesTokens {A = List Token} (Ok tokens) (Err e) → TextGives query (Err (of_lexer e))
+pub no_tokens : (e : LexRefusal) (tokens : List Token) (query : OrderedQuery) → GivesTokens {A = List Token} (Ok tokens) (Err e) → TextGives query (Err (of_lexer e))
 no_tokens (lexer.TooLong at) tokens query h = absurd cc
 no_tokens (lexer.BadByte at) tokens query h = absurd cc
 no_tokens (lexer.OpenString at) tokens query h = absurd cc
 no_tokens (lexer.IntOutOfRange at) tokens query h = absurd cc
 no_tokens lexer.NoMemory tokens query h = tt
 
-pub not_spelled : (e : ParseRefusal) (tokens : List Token) (query : Query) → IsOnly tokens (Err e) → query_within tokens query → TextGives query (Err e)
+pub not_spelled : (e : ParseRefusal) (tokens : List Token) (query : OrderedQuery) → IsOnly tokens (Err e) → query_within tokens query → TextGives query (Err e)
 not_spelled (Text (text.TooLong at)) tokens query only f = absurd only
 not_spelled (Text (text.BadByte at)) tokens query only f = absurd only
 not_spelled (Text (text.OpenString at)) tokens query only f = absurd only

@@ -1,6 +1,6 @@
 -- The grammar of blocks and of whole queries.
 --
---   query := [ "STRUQL" version ] "INPUT" name { item } "OUTPUT" name
+--   query := [ "STRUQL" version ] "INPUT" name { order } { item } "OUTPUT" name
 --   item  := clause | "{" body "}"
 --   body  := [ where ] [ create ] [ link ] [ collect ] { "{" body "}" }
 --   where := "WHERE" cond { "," cond }      create  := "CREATE" term { "," term }
@@ -14,12 +14,14 @@ use Rattle.sd_lex.specs.declared.token.Span.{Span}
 use Rattle.sd_lex.specs.declared.token.Token.{Token}
 use Rattle.sd_lex.specs.declared.token.Sign.TheVariants as signs
 use Rattle.struql_ast.specs.Written as tree
-use Rattle.struql_ast.specs.Written.{Condition, Term, Link, Collect, Clauses, Blocks, no_blocks, block, Query}
+use Rattle.struql_ast.specs.Written.{Condition, Term, Link, Collect, Clauses, Blocks, no_blocks, block}
 use Rattle.grammar.specs.Grammar.{nothing, one, ◌>>=◌, ◌>>◌, either, iterated, guarded, never}
 use Rattle.struql_text.specs.declared.keyword.Keyword.{Keyword}
 use Rattle.struql_text.specs.declared.keyword.Keyword.TheVariants as words
 use Rattle.struql_text.specs.Terminals.{from_to, version_value, other_version_value, head_value}
 use Rattle.struql_text.specs.Expression.{sign, keyword, Counted, expression_within, expression_spelled}
+use Rattle.struql_orders.specs.Grammar.{orders}
+use Rattle.struql_orders.specs.Ordered.{OrderedQuery}
 use Rattle.struql_text.specs.Grammar.{listed, name, term, link, collect, condition}
 
 -- no clause
@@ -246,28 +248,32 @@ head all = either (one head_value >> version all) (nothing 1)
 
 -- a query, by what its expressions are and what is in braces at the top
 abbrev pub query_of : Bool → (List Token → Counted → Type 0)
-    → (ℕ → Groups → List Token → Body → Type 0) → List Token → Query → Type 0
+    → (ℕ → Groups → List Token → Body → Type 0) → List Token → OrderedQuery → Type 0
 query_of all expression inner = do
   n ← head all
   keyword words.Input
   input ← name n
+  os ← orders n
   groups ← iterated (item_step n expression (inner n)) no_groups
   keyword words.Output
   output ← name n
   nothing (record {
-    version = n;
-    input = input.text;
-    blocks = grouped groups;
-    output = output.text;
+    orders = os;
+    query = record {
+      version = n;
+      input = input.text;
+      blocks = grouped groups;
+      output = output.text;
+    };
   })
 
 -- within the limits of this program
-abbrev pub query_within : List Token → Query → Type 0
+abbrev pub query_within : List Token → OrderedQuery → Type 0
 query_within =
     query_of false expression_within (λ version g. body version expression_within (levels g.bare))
 
 -- at all: any version, and blocks as deep as you like
-abbrev pub query_spelled : List Token → Query → Type 0
+abbrev pub query_spelled : List Token → OrderedQuery → Type 0
 query_spelled =
     query_of true expression_spelled
     (λ version g tokens b. (depth : ℕ) × body version expression_spelled depth tokens b)

@@ -2,7 +2,7 @@
 use Rattle.std.specs.Prelude.{ℕ, zero, suc, Bool, true, false, ◌||◌, List, []}
 use Rattle.sd_lex.specs.declared.token.Token.{Token}
 use Rattle.sd_lex.specs.declared.token.Sign.TheVariants as signs
-use Rattle.struql_ast.specs.Written.{Blocks, no_blocks, Query}
+use Rattle.struql_ast.specs.Written.{Blocks, no_blocks}
 use Rattle.grammar.specs.Reading.{Outcome, Past, ◌>>=◌, ◌>>◌, give, take_one, choose, iterate, guard, finish}
 use Rattle.struql_text.specs.declared.keyword.Keyword.{Keyword}
 use Rattle.struql_text.specs.declared.keyword.Keyword.TheVariants as words
@@ -10,6 +10,8 @@ use Rattle.struql_text.specs.Terminals.{from_to, is_keyword, is_head, head_value
 use Rattle.token_reader.specs.Terminals.{is_sign}
 use Rattle.struql_parse.specs.Blocks.{Body, Placed, onto_end, Groups, no_groups, grouped, Item, conditions_item}
 use Rattle.struql_parse.specs.Blocks.{creates_item, links_item, collects_item, join, nest, levels}
+use Rattle.struql_orders.specs.Ordered.{OrderedQuery}
+use Rattle.struql_orders.specs.Reading.{read_orders}
 use Rattle.struql_text.specs.Reading.{read_sign, read_keyword, read_name, read_listed, read_condition, read_term, read_link, read_collect}
 
 -- a clause: its word, and its items
@@ -118,12 +120,21 @@ unfoldable pub read_head : List Token → Outcome Token ℕ
 read_head = choose is_head (take_one true head_value >> read_version) (give 1)
 
 -- a query
-unfoldable pub read_query : List Token → Outcome Token Query
+unfoldable pub read_query : List Token → Outcome Token OrderedQuery
 read_query = do
   n ← read_head
   read_keyword words.Input
   input ← read_name n
+  os ← read_orders n
   groups ← iterate begins_item (read_item_step n) no_groups
   read_keyword words.Output
   output ← read_name n
-  finish (record { version = n; input = input.text; blocks = grouped groups; output = output.text })
+  finish (record {
+    orders = os;
+    query = record {
+      version = n;
+      input = input.text;
+      blocks = grouped groups;
+      output = output.text;
+    };
+  })

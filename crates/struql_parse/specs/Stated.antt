@@ -1,8 +1,8 @@
 -- What the reader of a whole query answers.
 use Rattle.std.specs.Prelude.{◌≡◌, ℕ, true, false, List, Result, Ok, Err}
 use Rattle.sd_lex.specs.declared.token.Token.{Token}
-use Rattle.struql_ast.specs.declared.Query as declared
-use Rattle.struql_ast.specs.Written.{Query, query_written}
+use Rattle.struql_orders.specs.declared.OrderedQuery as declared
+use Rattle.struql_orders.specs.Ordered.{OrderedQuery, ordered_written}
 use Rattle.grammar.specs.Fault.{FirstFault, FirstPast}
 use Rattle.grammar.specs.Reading.{starts}
 use Rattle.token_reader.specs.declared.refusal.TextRefusal.TheVariants.{Expected, NoMemory}
@@ -16,8 +16,8 @@ use Rattle.token_reader.specs.Gives.{place, IsReal}
 -- token such that nothing that is spelled begins with the tokens up to and with it. `BadVersion` and `TooDeep` have that
 -- of the first token such that something does, but nothing within the limits: the number that is no version, or else the
 -- sign that goes too deep. Tokens have no other faults.
-abbrev pub States : List Token → ℕ → Result declared.Query ParseRefusal → Type 0
-States tokens text_end (Ok q) = query_within tokens (query_written q)
+abbrev pub States : List Token → ℕ → Result declared.OrderedQuery ParseRefusal → Type 0
+States tokens text_end (Ok q) = query_within tokens (ordered_written q)
 States tokens text_end (Err (Text (Expected at))) =
     (rest : List Token) × FirstFault IsReal query_within query_spelled tokens rest
     × (at ≡ place text_end rest)
@@ -31,10 +31,10 @@ States tokens text_end (Err (Text NoMemory)) = Unit {0}
 States tokens text_end (Err (Text fault)) = ⊥
 
 -- What is spelled within the limits is the answer, unless it is out of memory.
-abbrev pub IsOnly : List Token → Result declared.Query ParseRefusal → Type 0
-IsOnly tokens (Ok q) = (value : Query) → query_within tokens value → query_written q ≡ value
-IsOnly tokens (Err (Text (Expected at))) = (value : Query) → query_spelled tokens value → ⊥
-IsOnly tokens (Err (TooDeep at)) = (value : Query) → query_within tokens value → ⊥
-IsOnly tokens (Err (BadVersion at)) = (value : Query) → query_within tokens value → ⊥
+abbrev pub IsOnly : List Token → Result declared.OrderedQuery ParseRefusal → Type 0
+IsOnly tokens (Ok q) = (value : OrderedQuery) → query_within tokens value → ordered_written q ≡ value
+IsOnly tokens (Err (Text (Expected at))) = (value : OrderedQuery) → query_spelled tokens value → ⊥
+IsOnly tokens (Err (TooDeep at)) = (value : OrderedQuery) → query_within tokens value → ⊥
+IsOnly tokens (Err (BadVersion at)) = (value : OrderedQuery) → query_within tokens value → ⊥
 IsOnly tokens (Err (Text NoMemory)) = Unit {0}
 IsOnly tokens (Err (Text fault)) = ⊥

@@ -7,8 +7,8 @@ use Rattle.grammar.specs.Fault.{FirstFault, FirstPast}
 use Rattle.grammar.specs.Reading.{starts}
 use Rattle.token_reader.specs.Gives.{place, IsReal}
 use Rattle.token_reader.specs.declared.refusal.TextRefusal.TheVariants.{TooLong, BadByte, OpenString, IntOutOfRange, Expected, NoMemory}
-use Rattle.struql_ast.specs.declared.Query as declared
-use Rattle.struql_ast.specs.Written.{Query, query_written}
+use Rattle.struql_orders.specs.declared.OrderedQuery as declared
+use Rattle.struql_orders.specs.Ordered.{OrderedQuery, ordered_written}
 use Rattle.struql_text.specs.Terminals.{is_other_version}
 use Rattle.struql_parse.specs.declared.refusal.ParseRefusal.{ParseRefusal}
 use Rattle.struql_parse.specs.declared.refusal.ParseRefusal.TheVariants.{Text, TooDeep, BadVersion}
@@ -18,10 +18,10 @@ use Rattle.struql_parse.specs.Blocks.{query_within, query_spelled}
 -- the lexer's fault. `Expected` has the place of the first token such that nothing that is spelled begins with the tokens
 -- up to and with it. `BadVersion` and `TooDeep` have that of the first token such that something does, but nothing within
 -- the limits: the number that is no version, or else the sign that goes too deep.
-abbrev pub TextStates : ℕ → List ℕ → Result declared.Query ParseRefusal → Type 0
+abbrev pub TextStates : ℕ → List ℕ → Result declared.OrderedQuery ParseRefusal → Type 0
 TextStates limit bytes (Ok q) =
     (tokens : List Token) × IsTextOrFault limit bytes (Ok tokens)
-    × query_within tokens (query_written q)
+    × query_within tokens (ordered_written q)
 TextStates limit bytes (Err (Text (TooLong at))) =
     IsTextOrFault limit bytes (Err (lexer.TooLong at))
 TextStates limit bytes (Err (Text (BadByte at))) =
@@ -44,8 +44,8 @@ TextStates limit bytes (Err (BadVersion at)) =
 TextStates limit bytes (Err (Text NoMemory)) = Unit {0}
 
 -- The query that a text spells is the answer, unless it is out of memory.
-abbrev pub TextGives : Query → Result declared.Query ParseRefusal → Type 0
-TextGives query (Ok q) = query_written q ≡ query
+abbrev pub TextGives : OrderedQuery → Result declared.OrderedQuery ParseRefusal → Type 0
+TextGives query (Ok q) = ordered_written q ≡ query
 TextGives query (Err (Text (TooLong at))) = ⊥
 TextGives query (Err (Text (BadByte at))) = ⊥
 TextGives query (Err (Text (OpenString at))) = ⊥

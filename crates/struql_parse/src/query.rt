@@ -2,8 +2,9 @@
 
 ghost use Rattle.std.specs.Prelude.{◌≡◌, IfOk, [], ◌∷◌, map};
 ghost use Rattle.grammar.specs.Reading.{iterate, starts};
-ghost use Rattle.struql_ast.specs.Written.{query_written, blocks_written, no_blocks, condition_written, term_written};
+ghost use Rattle.struql_ast.specs.Written.{blocks_written, no_blocks, condition_written, term_written};
 ghost use Rattle.struql_ast.specs.Written.{link_written, collect_written};
+ghost use Rattle.struql_orders.specs.Ordered.{ordered_written};
 ghost use Rattle.struql_text.specs.Terminals.{is_head, is_other_version};
 ghost use Rattle.struql_parse.specs.Blocks.{onto_end, empty_clauses, no_groups, join as plain_join};
 ghost use Rattle.struql_parse.specs.Blocks.{grouped as plain_grouped, nest as plain_nest};
@@ -22,6 +23,7 @@ use sd_lex::{Sign, Span, Token, TokenKind};
 use sd_value::NoMemory;
 use std::alloc::Global;
 use struql_ast::{Block, Collect, Condition, Link, Query, SkolemTerm};
+use struql_orders::{OrderedQuery, orders_at};
 use struql_text::{Keyword, from_to, has_keyword, keyword_at, name_at};
 use token_reader::{Halt, TextRefusal, has_sign, place_of};
 
@@ -414,31 +416,37 @@ fn head_at(tokens: &[Token]) -> Result<(u8, &[Token]), Halt<Token>>
 }
 
 #[tactic(auto, unfolding(crate::specs::Reading::read_query))]
-fn whole_at(alloc: Global, tokens: &[Token]) -> Result<Query, Halt<Token>>
-    ensures { Gives (λ x. query_written x) (λ _. []) result (read_query tokens.now) }
+fn whole_at(alloc: Global, tokens: &[Token]) -> Result<OrderedQuery, Halt<Token>>
+    ensures { Gives (λ x. ordered_written x) (λ _. []) result (read_query tokens.now) }
 {
     let (version, rest) = head_at(tokens)?;
     let (_, rest) = keyword_at(rest, Keyword::Input)?;
     let (input, rest) = name_at(alloc, version, rest)?;
+    let (orders, rest) = orders_at(alloc, version, rest)?;
     let (groups, rest) = items_at(alloc, version, rest)?;
     let (_, rest) = keyword_at(rest, Keyword::Output)?;
     let (output, rest) = name_at(alloc, version, rest)?;
     match rest {
         [] => {
             let blocks = grouped(groups)?;
-            Ok(Query {
+            let query = Query {
                 version,
                 input: input.text,
                 blocks,
                 output: output.text,
-            })
+            };
+            Ok(OrderedQuery { orders, query })
         }
         [_, ..] => Err(Halt::Expected(rest)),
     }
 }
 
 /// The query that these tokens spell. The text ends at `text_end`.
-pub fn parse_tokens(alloc: Global, tokens: &[Token], text_end: u64) -> Result<Query, ParseRefusal>
+pub fn parse_tokens(
+    alloc: Global,
+    tokens: &[Token],
+    text_end: u64,
+) -> Result<OrderedQuery, ParseRefusal>
     ensures exact { States tokens.now text_end result }
     ensures only { IsOnly tokens.now result }
 {

@@ -1,6 +1,6 @@
 -- The canonical text of a query and of its parts.
 use Rattle.std.specs.Prelude.{ℕ, Bool, true, false, ◌&&◌, List, [], ◌∷◌, ◌++◌, map, codes, nat_eq, if◌then◌else◌}
-use Rattle.std.specs.Fmt.{signed_decimal}
+use Rattle.std.specs.Fmt.{decimal, signed_decimal}
 use Rattle.std.specs.List.{flat_map, list_all}
 use Rattle.std.specs.Option.{is_none}
 use Rattle.sd_value.specs.declared.Datum.{Datum}
@@ -19,7 +19,10 @@ use Rattle.value_texts.specs.declared.TextTest.TheVariants.{Starts, Ends, Has}
 use Rattle.query_spec.specs.Query.{Operand, variable, constant, PathStep, arc_variable, expression, Condition, member}
 use Rattle.query_spec.specs.Query.{path, compare, one_of, kind, negation, SkolemTerm, Target, plain, made, LinkLabel}
 use Rattle.query_spec.specs.Query.{Aggregate, count_of, min_of, max_of, sum_of, summed}
-use Rattle.query_spec.specs.Query.{quoted, label_variable, Link, Collect, Body, Blocks, no_blocks, block, Query}
+use Rattle.query_spec.specs.Query.{quoted, label_variable, Link, Collect, Body, Blocks, no_blocks, block}
+use Rattle.sd_value.specs.Names.{Word}
+use Rattle.order_spec.specs.Order.{Place, position, next, previous, page, Order}
+use Rattle.struql_orders.specs.Ordered.{Ordered}
 use Rattle.struql_text.specs.Terminals.{keyword_in, test_of}
 
 -- the texts, with commas between them
@@ -217,16 +220,43 @@ block_texts version (block b inner after) =
     ++ (flat_map (λ text. codes " " ++ text) (block_texts version inner) ++ codes " }")))
     ∷ block_texts version after
 
+-- ---- ORDERs
+
+-- labels, each in quotes, with dots between them
+abbrev pub labels_text : Word → List ℕ
+labels_text [] = []
+labels_text (l ∷ labels) = quoted_text l ++ flat_map (λ m. codes "." ++ quoted_text m) labels
+
+-- `position "l"` and its like
+abbrev pub place_text : Place → List ℕ
+place_text (position l) = codes "position " ++ quoted_text l
+place_text (next l) = codes "next " ++ quoted_text l
+place_text (previous l) = codes "previous " ++ quoted_text l
+place_text (page l k) = codes "page " ++ (quoted_text l ++ (codes " OF " ++ decimal k))
+
+-- `ORDER C BY "l" FOLD DESCEND { position "l" }`
+abbrev pub order_text : Order → List ℕ
+order_text o =
+    codes "ORDER " ++ (collection_text 3 o.collection ++ (codes " BY " ++ (labels_text o.word
+    ++ ((if o.fold then codes " FOLD" else []) ++ ((if o.descend then codes " DESCEND" else [])
+    ++ (codes " {" ++ (flat_map (λ p. codes " " ++ place_text p) o.places ++ codes " }")))))))
+
 -- the line of a version that isn't the first
 abbrev pub version_text : ℕ → List ℕ
 version_text version =
     if nat_eq version 2 then codes "STRUQL 2\n"
     else (if nat_eq version 3 then codes "STRUQL 3\n" else [])
 
--- a line for the version if it isn't the first, one for the input, one for each block, and one for the output
-abbrev pub query_text : Query → List ℕ
+-- texts, a line for each
+abbrev pub lines_text : List (List ℕ) → List ℕ
+lines_text texts = flat_map (λ text. text ++ codes "\n") texts
+
+-- a line for the version if it isn't the first, one for the input, one for each ORDER, one for each block, and one for
+-- the output
+abbrev pub query_text : Ordered → List ℕ
 query_text q =
-    version_text q.version
-    ++ (codes "INPUT " ++ (q.input ++ (codes "\n"
-    ++ (flat_map (λ text. text ++ codes "\n") (block_texts q.version q.blocks)
-    ++ (codes "OUTPUT " ++ (q.output ++ codes "\n"))))))
+    version_text q.query.version
+    ++ (codes "INPUT " ++ (q.query.input ++ (codes "\n"
+    ++ (lines_text (map order_text q.orders)
+    ++ (lines_text (block_texts q.query.version q.query.blocks)
+    ++ (codes "OUTPUT " ++ (q.query.output ++ codes "\n")))))))

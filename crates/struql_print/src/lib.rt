@@ -4,6 +4,7 @@
 mod collections;
 mod conditions;
 mod listed;
+mod orders;
 mod query;
 mod regex;
 mod terms;

@@ -3,13 +3,16 @@
 ghost use Rattle.std.specs.Prelude.{◌≡◌, ◌++◌, IfOk, ℕ, List, map, codes};
 ghost use Rattle.std.specs.List.{flat_map};
 ghost use Rattle.struql_ast.specs.declared.Block.{Block as AnyBlock};
-ghost use Rattle.struql_ast.specs.Reading.{blocks_of, query_of};
+ghost use Rattle.struql_ast.specs.Reading.{blocks_of};
+ghost use Rattle.struql_orders.specs.Ordered.{ordered_of};
 ghost use Rattle.struql_print.specs.Texts.{clause_text, block_texts, version_text, query_text};
 ghost use Rattle.struql_print.specs.Block.{block_text, clauses_text};
 
 use crate::listed::{Print, print_listed};
+use crate::orders::print_orders;
 use sd_value::{NoMemory, Str};
-use struql_ast::{Block, Query};
+use struql_ast::Block;
+use struql_orders::OrderedQuery;
 use token_writer::put;
 
 /// Appends a clause behind a blank, or nothing where it has no items.
@@ -101,14 +104,17 @@ fn print_line(word: &[u8], name: &Str, out: &mut Vec<u8>) -> Result<(), NoMemory
 }
 
 /// Appends a query's canonical text: a line `STRUQL 2` or `STRUQL 3` if that is its version, a line for the
-/// input, one for each block and one for the output. Reading it gives the query again, places
+/// input, one for each ORDER, one for each block and one for the output. Reading it gives the query again, places
 /// aside, where the grammar can spell the query at all. After `NoMemory` what `out` holds is not
 /// said.
-pub fn print(query: &Query, out: &mut Vec<u8>) -> Result<(), NoMemory>
-    ensures { IfOk result (λ _. out.new.items ≡ out.old.items ++ query_text (query_of query.now)) }
+pub fn print(written: &OrderedQuery, out: &mut Vec<u8>) -> Result<(), NoMemory>
+    ensures { IfOk result (λ _. out.new.items
+        ≡ out.old.items ++ query_text (ordered_of written.now)) }
 {
+    let query = &written.query;
     print_version(query.version, out)?;
     print_line(b"INPUT ", &query.input, out)?;
+    print_orders(written.orders.as_slice(), out)?;
     print_lines(query.version, query.blocks.as_slice(), out)?;
     print_line(b"OUTPUT ", &query.output, out)
 }

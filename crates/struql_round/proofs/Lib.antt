@@ -6,10 +6,12 @@ pub mod Texts
 pub mod LinkEnds
 pub mod QueryTerms
 pub mod Links
+pub mod Orders
 pub mod Blocks
 pub mod Whole
 pub mod Kept
 pub mod Fitting
 pub mod ParsedTerms
 pub mod ParsedConditions
+pub mod ParsedOrders
 pub mod ParsedQueries

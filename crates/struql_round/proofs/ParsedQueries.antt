@@ -16,16 +16,18 @@ use Rattle.struql_text.specs.declared.keyword.Keyword.TheVariants as words
 use Rattle.struql_text.specs.Terminals.{version_kind_value}
 use Rattle.struql_text.specs.Expression.{expression_within}
 use Rattle.struql_text.specs.Grammar as text
+use Rattle.struql_orders.specs.Ordered.{OrderedQuery}
 use Rattle.struql_parse.specs.Blocks as blocks
 use Rattle.struql_parse.specs.Blocks.{Body, Bare, Groups, Item, query_within}
 use Rattle.struql_round.specs.ShownParts.{condition_kept, term_kept}
 use Rattle.struql_round.specs.Spellable.{Every, IsCondition, IsTerm, IsLink, IsCollect, IsBody, AreBlocks, IsSpellable}
-use Rattle.struql_round.specs.Kept.{link_kept, collect_kept, clauses_kept, blocks_kept, query_kept}
+use Rattle.struql_round.specs.Kept.{link_kept, collect_kept, clauses_kept, blocks_kept, ordered_kept}
 use Rattle.struql_round.specs.Again.{ParsedIsReadAgain}
 use Rattle.struql_round.proofs.Whole.{query_again}
 use Rattle.struql_round.proofs.Kept.{every_mapped, steps_keep}
 use Rattle.struql_round.proofs.ParsedTerms.{Real, front_real, back_real, is_word, listed_every, is_term, is_link, is_collect, TermKept, LinkKept, CollectKept}
 use Rattle.struql_round.proofs.ParsedConditions.{ConditionKept, is_condition}
+use Rattle.struql_round.proofs.ParsedOrders.{are_orders}
 
 -- ---- bodies
 
@@ -182,22 +184,25 @@ head_version ts n (inr (none, same)) = inl same
 
 -- ---- whole queries
 
-abbrev SpellableKept : tree.Query → Type 0
-SpellableKept w = IsSpellable (query_kept w)
+abbrev SpellableKept : OrderedQuery → Type 0
+SpellableKept w = IsSpellable (ordered_kept w)
 
-query_spellable : (ts : List Token) (w : tree.Query) → Real ts → query_within ts w → SpellableKept w
-query_spellable ts w real (f1, b1, n, cut1, head, (f2, b2, input_word, cut2, is2, (f3, b3, input, cut3, named3, (f4, b4, groups, cut4, (k, more), (f5, b5, output_word, cut5, is5, (f6, b6, output, cut6, named6, (none, same))))))) =
+query_spellable : (ts : List Token) (w : OrderedQuery) → Real ts → query_within ts w → SpellableKept w
+query_spellable ts w real
+    (f1, b1, n, cut1, head, (f2, b2, input_word, cut2, is2, (f3, b3, input, cut3, named3, (f7, b7, orders, cut7, ordered, (f4, b4, groups, cut4, (k, more), (f5, b5, output_word, cut5, is5, (f6, b6, output, cut6, named6, (none, same)))))))) =
     let real1 = back_real ts f1 b1 cut1 real in
     let real2 = back_real b1 f2 b2 cut2 real1 in
     let real3 = back_real b2 f3 b3 cut3 real2 in
-    let real4 = back_real b3 f4 b4 cut4 real3 in
+    let real7 = back_real b3 f7 b7 cut7 real3 in
+    let real4 = back_real b7 f4 b4 cut4 real7 in
     let real5 = back_real b4 f5 b5 cut5 real4 in
     let input_kept = is_word n f3 input (front_real b2 f3 b3 cut3 real2) named3 in
     let output_kept = is_word n f6 output (front_real b5 f6 b6 cut6 real5) named6 in
-    let inside : GroupsKept n groups = steps_keep IsReal (Step n) (GroupsKept n) (step_keeps n) k blocks.no_groups f4 groups (front_real b3 f4 b4 cut4 real3) (tt, tt) more in
-    subst SpellableKept (sym same) (record { version = head_version f1 n head; input = input_kept; blocks = grouped_kept n groups.closed groups.bare inside.0 inside.1; output = output_kept })
+    let orders_kept = are_orders n f7 orders (front_real b3 f7 b7 cut7 real3) ordered in
+    let inside : GroupsKept n groups = steps_keep IsReal (Step n) (GroupsKept n) (step_keeps n) k blocks.no_groups f4 groups (front_real b7 f4 b4 cut4 real7) (tt, tt) more in
+    subst SpellableKept (sym same) (record { version = head_version f1 n head; input = input_kept; orders = orders_kept; blocks = grouped_kept n groups.closed groups.bare inside.0 inside.1; output = output_kept })
 
-pub parsed_again : (limit : ℕ) (bytes : List ℕ) (tokens : List Token) (w : tree.Query) → ParsedIsReadAgain limit bytes tokens w
+pub parsed_again : (limit : ℕ) (bytes : List ℕ) (tokens : List Token) (w : OrderedQuery) → ParsedIsReadAgain limit bytes tokens w
 parsed_again limit bytes tokens w lexed spelled =
     let is = query_spellable tokens w (text_real limit bytes tokens lexed) spelled in
-    (is, query_again limit (query_kept w) is)
+    (is, query_again limit (ordered_kept w) is)

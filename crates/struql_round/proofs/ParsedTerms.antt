@@ -73,7 +73,7 @@ negative_small n z h = by_case (nat_le n 9223372036854775808) refl
         subst (λ x. mag x < 2 ^ 63) same (opposite_small n (leb-true n 9223372036854775808 e))
     by_case false e = absurd (let g = rw e at h in cc)
 
-int_small : (text : List ℕ) (z : ℤ) → int_of text ≡ Some z → mag z < 2 ^ 63
+pub int_small : (text : List ℕ) (z : ℤ) → int_of text ≡ Some z → mag z < 2 ^ 63
 int_small [] z h = absurd cc
 int_small (b ∷ digits) z h = by_case (nat_eq b 45) refl
   where

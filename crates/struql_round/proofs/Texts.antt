@@ -36,7 +36,7 @@ use Rattle.struql_round.proofs.Lexing.{Lexing, Safe, Nil, Cons, shown, same_text
 
 -- ---- single tokens
 
-quoted_spells : (s : List ℕ) → Spells (quoted_text s) (kinds.Quoted s)
+pub quoted_spells : (s : List ℕ) → Spells (quoted_text s) (kinds.Quoted s)
 quoted_spells s = (flat_map escaped_byte s, refl, text_spells s)
 
 pub word_then : {T : List Token → Type 0} {W : List ℕ → Type 0} {others : List ℕ} (x : List ℕ) → IsName x → ((later : List ℕ) → W later → Safe (others ++ later)) → Lexing T W others

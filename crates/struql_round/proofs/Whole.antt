@@ -1,7 +1,6 @@
 -- The canonical text of a query spells it.
 use Rattle.std.proofs.Common.{◌≡◌, ℕ, suc, true, false, List, [], ◌∷◌, ◌++◌, length, refl, sym, ap, subst, ◌∙◌, arith, inl, inr}
-use Rattle.std.specs.Prelude.{None, codes, pos}
-use Rattle.std.specs.List.{flat_map}
+use Rattle.std.specs.Prelude.{None, codes, map, pos}
 use Rattle.std.proofs.lemmas.List.{append-nil}
 use Rattle.sd_lex.specs.declared.token.Token.{Token}
 use Rattle.sd_lex.specs.declared.token.TokenKind.TheVariants as kinds
@@ -9,22 +8,25 @@ use Rattle.sd_lex.specs.declared.token.Sign.TheVariants as signs
 use Rattle.sd_lex.specs.Lexing.{Spells, Lexes, here, IsLexed, behind_mark, mark_len}
 use Rattle.grammar.specs.Grammar.{iterated}
 use Rattle.query_spec.specs.Mentions.{IsVersion}
-use Rattle.query_spec.specs.Query.{Body, Blocks, no_blocks, block, Query}
+use Rattle.query_spec.specs.Query.{Body, Blocks, no_blocks, block}
 use Rattle.struql_ast.specs.Written as tree
 use Rattle.struql_text.specs.declared.keyword.Keyword.TheVariants as words
 use Rattle.struql_text.specs.Terminals.{from_to, is_keyword, keyword_of}
 use Rattle.struql_text.specs.Expression.{expression_within, sign}
 use Rattle.struql_text.proofs.TokenParts.{is_that}
+use Rattle.struql_orders.specs.Grammar.{orders}
+use Rattle.struql_orders.specs.Ordered.{OrderedQuery, Ordered}
 use Rattle.struql_parse.specs.Blocks as blocks
-use Rattle.struql_print.specs.Texts.{block_texts, query_text}
+use Rattle.struql_print.specs.Texts.{block_texts, order_text, lines_text, query_text}
 use Rattle.struql_round.specs.ShownParts.{ShowsName}
 use Rattle.struql_round.proofs.Conditions.{name_is}
 use Rattle.struql_round.specs.Spellable.{IsBody, AreBlocks, IsSpellable}
-use Rattle.struql_round.specs.Kept.{blocks_kept, query_kept}
+use Rattle.struql_round.specs.Kept.{blocks_kept, ordered_kept}
 use Rattle.struql_round.specs.Again.{QueryIsReadAgain}
 use Rattle.struql_round.proofs.Lexing.{Lexing, Any, Nil, Cons, Both, shown, same_text, nothing_more, gap, both, token_then}
 use Rattle.struql_round.proofs.Texts.{word_then, name_then}
 use Rattle.struql_round.proofs.Links.{keyword_is}
+use Rattle.struql_round.proofs.Orders.{orders_lexing}
 use Rattle.struql_round.proofs.Blocks.{appended, one_kept, none_behind, Braced, braced_text, block_lexing}
 
 -- ---- the blocks at the top
@@ -32,8 +34,8 @@ use Rattle.struql_round.proofs.Blocks.{appended, one_kept, none_behind, Braced, 
 abbrev closed : tree.Blocks → blocks.Groups
 closed bs = record { closed = bs; bare = None }
 
-abbrev lines_text : ℕ → Blocks → List ℕ
-lines_text version bs = flat_map (λ text. text ++ codes "\n") (block_texts version bs)
+abbrev block_lines : ℕ → Blocks → List ℕ
+block_lines version bs = lines_text (block_texts version bs)
 
 module _ (version : ℕ) where
   abbrev step : blocks.Groups → List Token → blocks.Groups → Type 0
@@ -61,7 +63,7 @@ module _ (version : ℕ) where
       shown (λ tokens h. subst (Braced version 15 b inner) (sym (h.2 ∙ (ap (λ x. h.0 ++ x) h.4 ∙ append-nil h.0))) h.3)
       (both (block_lexing version 15 b inner is within) (λ later w. tt) (gap 10 refl nothing_more))
 
-  top_lexing : (bs : Blocks) → AreBlocks version 16 bs → Lexing (TopBehind bs) Any (lines_text version bs)
+  top_lexing : (bs : Blocks) → AreBlocks version 16 bs → Lexing (TopBehind bs) Any (block_lines version bs)
   top_lexing no_blocks is = shown (λ tokens none done. (done, (0, (none, refl)), sym (none_behind (blocks_kept done)))) nothing_more
   top_lexing (block b inner after) is =
       shown (one_top b inner after) (both (line_lexing b inner is.0 is.1) (λ later w. tt) (top_lexing after is.2))
@@ -76,37 +78,44 @@ output_shown : (t : Token) → t.kind ≡ kinds.Name (codes "OUTPUT") → is_key
 unfolding keyword_of
 output_shown t e = rw e refl
 
--- the words and names round the blocks
-abbrev Framed : Query → List Token → Type 0
-Framed q = Cons (λ t. t.kind ≡ kinds.Name (codes "INPUT")) (Cons (ShowsName q.version q.input) (Both (TopBehind q.version q.blocks) (Cons (λ t. t.kind ≡ kinds.Name (codes "OUTPUT")) (Cons (ShowsName q.version q.output) Nil))))
+-- the words and names round the ORDERs and the blocks
+abbrev Framed : Ordered → List Token → Type 0
+Framed q =
+    Cons (λ t. t.kind ≡ kinds.Name (codes "INPUT")) (Cons (ShowsName q.query.version q.query.input)
+    (Both (λ ts. orders q.query.version ts q.orders) (Both (TopBehind q.query.version q.query.blocks)
+    (Cons (λ t. t.kind ≡ kinds.Name (codes "OUTPUT")) (Cons (ShowsName q.query.version q.query.output) Nil)))))
 
-abbrev frame_text : Query → List ℕ
-frame_text q = codes "INPUT " ++ (q.input ++ (codes "\n" ++ (lines_text q.version q.blocks ++ (codes "OUTPUT " ++ (q.output ++ codes "\n")))))
+abbrev frame_text : Ordered → List ℕ
+frame_text q =
+    codes "INPUT " ++ (q.query.input ++ (codes "\n" ++ (lines_text (map order_text q.orders)
+    ++ (block_lines q.query.version q.query.blocks ++ (codes "OUTPUT " ++ (q.query.output ++ codes "\n"))))))
 
-frame_lexing : (q : Query) → IsSpellable q → Lexing (Framed q) Any (frame_text q)
+frame_lexing : (q : Ordered) → IsSpellable q → Lexing (Framed q) Any (frame_text q)
 frame_lexing q is =
     word_then (codes "INPUT") (refl, (refl, (refl, (refl, (refl, tt))))) (λ later w. (refl, refl, refl)) (gap 32 refl
-    (name_then q.version q.input is.input (λ later w. (refl, refl, refl)) (gap 10 refl
-    (both (top_lexing q.version q.blocks is.blocks) (λ later w. tt)
+    (name_then q.query.version q.query.input is.input (λ later w. (refl, refl, refl)) (gap 10 refl
+    (both (orders_lexing q.query.version q.orders is.orders) (λ later w. tt)
+    (both (top_lexing q.query.version q.query.blocks is.blocks) (λ later w. tt)
     (word_then (codes "OUTPUT") (refl, (refl, (refl, (refl, (refl, (refl, tt)))))) (λ later w. (refl, refl, refl)) (gap 32 refl
-    (name_then q.version q.output is.output (λ later w. (refl, refl, refl)) (gap 10 refl nothing_more))))))))
+    (name_then q.query.version q.query.output is.output (λ later w. (refl, refl, refl)) (gap 10 refl nothing_more)))))))))
 
-abbrev SpeltQuery : Query → List Token → Type 0
-SpeltQuery q tokens = (w : tree.Query) × blocks.query_within tokens w × (query_kept w ≡ q)
+abbrev SpeltQuery : Ordered → List Token → Type 0
+SpeltQuery q tokens = (w : OrderedQuery) × blocks.query_within tokens w × (ordered_kept w ≡ q)
 
 abbrev Headed : ℕ → List Token → Type 0
 Headed version tokens = blocks.head false tokens version
 
-framed_spelt : (q : Query) (version : ℕ) (tokens : List Token) → q.version ≡ version → Both (Headed version) (Framed q) tokens → SpeltQuery q tokens
-framed_spelt q version tokens same (front, back, parts, head, (i, rest, is, input, (n, rest2, is2, named, (f, k, cut, top, (o, rest3, is3, output, (m, rest4, is4, called, none)))))) =
+framed_spelt : (q : Ordered) (version : ℕ) (tokens : List Token) → q.query.version ≡ version → Both (Headed version) (Framed q) tokens → SpeltQuery q tokens
+framed_spelt q version tokens same
+    (front, back, parts, head, (i, rest, is, input, (n, rest2, is2, named, (g, r, split, ordered, (f, k, cut, top, (o, rest3, is3, output, (m, rest4, is4, called, none))))))) =
     let all = top tree.no_blocks in
     let begins = subst (λ n. Headed n front) (sym same) head in
-    let w : tree.Query = record { version = q.version; input = q.input; blocks = all.0; output = q.output } in (
+    let w : OrderedQuery = record { orders = q.orders; query = record { version = q.query.version; input = q.query.input; blocks = all.0; output = q.query.output } } in (
       w,
       (
         front,
         back,
-        q.version,
+        q.query.version,
         parts,
         begins,
         (
@@ -118,28 +127,35 @@ framed_spelt q version tokens same (front, back, parts, head, (i, rest, is, inpu
           (
             n ∷ [],
             rest2,
-            record { text = q.input; span = n.span },
+            record { text = q.query.input; span = n.span },
             is2,
-            (n, refl, name_is q.version q.input n named),
+            (n, refl, name_is q.query.version q.query.input n named),
             (
-              f,
-              k,
-              closed all.0,
-              cut,
-              all.1,
+              g,
+              r,
+              q.orders,
+              split,
+              ordered,
               (
-                o ∷ [],
-                rest3,
-                o.span,
-                is3,
-                keyword_is words.Output o (output_shown o output),
-                (m ∷ [], [], record { text = q.output; span = m.span }, is4 ∙ ap (λ y. m ∷ y) none, (m, refl, name_is q.version q.output m called), (refl, refl)),
+                f,
+                k,
+                closed all.0,
+                cut,
+                all.1,
+                (
+                  o ∷ [],
+                  rest3,
+                  o.span,
+                  is3,
+                  keyword_is words.Output o (output_shown o output),
+                  (m ∷ [], [], record { text = q.query.output; span = m.span }, is4 ∙ ap (λ y. m ∷ y) none, (m, refl, name_is q.query.version q.query.output m called), (refl, refl)),
+                ),
               ),
             ),
           ),
         ),
       ),
-      (λ j. record { version = q.version; input = q.input; blocks = all.2 j; output = q.output }),
+      (λ j. record { orders = q.orders; query = record { version = q.query.version; input = q.query.input; blocks = all.2 j; output = q.query.output } }),
     )
 
 two_spells : Spells (codes "2") (kinds.Int (pos 2))
@@ -148,7 +164,7 @@ two_spells = (inl (refl, tt), refl)
 three_spells : Spells (codes "3") (kinds.Int (pos 3))
 three_spells = (inl (refl, tt), refl)
 
-query_lexing : (q : Query) → IsSpellable q → IsVersion q.version → Lexing (SpeltQuery q) Any (query_text q)
+query_lexing : (q : Ordered) → IsSpellable q → IsVersion q.query.version → Lexing (SpeltQuery q) Any (query_text q)
 query_lexing q is (inl one) =
     same_text (query_text q) (rw one refl)
     (shown (λ tokens h. framed_spelt q 1 tokens one ([], tokens, refl, inr (refl, refl), h)) (frame_lexing q is))
@@ -164,12 +180,12 @@ query_lexing q is (inr (inr three)) =
     (token_then (kinds.Int (pos 3)) (codes "3") three_spells (λ later w. refl) (gap 10 refl (frame_lexing q is))))))
 
 -- no byte order mark stands in front
-unmarked : (q : Query) (v : IsVersion q.version) → behind_mark (query_text q) ≡ query_text q
+unmarked : (q : Ordered) (v : IsVersion q.query.version) → behind_mark (query_text q) ≡ query_text q
 unmarked q (inl one) = rw one refl
 unmarked q (inr (inl two)) = rw two refl
 unmarked q (inr (inr three)) = rw three refl
 
-pub query_again : (limit : ℕ) (q : Query) → QueryIsReadAgain limit q
+pub query_again : (limit : ℕ) (q : Ordered) → QueryIsReadAgain limit q
 query_again limit q is within =
     let l = query_lexing q is is.version 0 in
     let bytes = query_text q in

@@ -4,6 +4,7 @@ use Rattle.query_spec.specs.Query as plain
 use Rattle.query_spec.specs.Query.{Target, Link, Collect, Body, Blocks, Query}
 use Rattle.struql_ast.specs.Reading.{operand_of, aggregate_of, label_of}
 use Rattle.struql_ast.specs.Written as tree
+use Rattle.struql_orders.specs.Ordered.{OrderedQuery, Ordered}
 use Rattle.struql_round.specs.ShownParts.{condition_kept, term_kept}
 
 abbrev pub target_kept : tree.Target → Target
@@ -41,3 +42,6 @@ query_kept q = record {
   blocks = blocks_kept q.blocks;
   output = q.output;
 }
+
+abbrev pub ordered_kept : OrderedQuery → Ordered
+ordered_kept q = record { orders = q.orders; query = query_kept q.query }

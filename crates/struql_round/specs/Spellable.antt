@@ -1,20 +1,24 @@
--- Which queries the grammar can spell: names are names and no keywords, constants are numbers of 64 bits and texts, tests
--- of two texts are in version 3 alone, and the limits are kept. A collection may have any name: where it is none of the grammar, it is quoted.
+-- Which queries the grammar can spell: names are names and no keywords, constants are numbers of 64 bits and texts, ORDERs
+-- and tests of two texts are in version 3 alone, and the limits are kept. A collection may have any name: where it is none
+-- of the grammar, it is quoted.
 use Rattle.std.specs.Prelude.{◌≡◌, ℕ, zero, suc, ◌<◌, ◌^◌, Bool, true, false, ◌&&◌, ◌||◌, nat_eq, List, [], ◌∷◌, None, codes}
 use Rattle.std.specs.Str.{bytes_eq}
 use Rattle.std.specs.Int.Signed.{mag}
 use Rattle.sd_value.specs.declared.Datum.TheVariants as datum
 use Rattle.sd_value.specs.declared.Value.{Value}
 use Rattle.sd_value.specs.declared.Value.TheVariants.{Data, Page}
+use Rattle.sd_value.specs.Names.{Word}
 use Rattle.sd_lex.specs.Lexing.{IsName}
+use Rattle.order_spec.specs.Order.{Place, position, next, previous, page, Order}
 use Rattle.query_spec.specs.declared.Op.{Op}
 use Rattle.query_spec.specs.declared.Op.TheVariants.{Texts}
 use Rattle.query_spec.specs.Mentions.{IsVersion}
 use Rattle.query_spec.specs.Query.{Operand, variable, constant, PathStep, arc_variable, expression, Condition, member}
 use Rattle.query_spec.specs.Query.{path, compare, one_of, kind, negation, SkolemTerm, Target, plain, made, LinkLabel}
 use Rattle.query_spec.specs.Query.{Aggregate, count_of, min_of, max_of, sum_of, summed}
-use Rattle.query_spec.specs.Query.{quoted, label_variable, Link, Collect, Body, Blocks, no_blocks, block, Query}
+use Rattle.query_spec.specs.Query.{quoted, label_variable, Link, Collect, Body, Blocks, no_blocks, block}
 use Rattle.struql_text.specs.Terminals.{keyword_in}
+use Rattle.struql_orders.specs.Ordered.{Ordered}
 use Rattle.struql_round.specs.Shown.{Fits}
 
 abbrev pub Every : {A : Type 0} → (A → Type 0) → List A → Type 0
@@ -123,8 +127,29 @@ AreBlocks version zero (block b inner after) = ⊥
 AreBlocks version (suc depth) (block b inner after) =
     IsBody version b × AreBlocks version depth inner × AreBlocks version (suc depth) after
 
-pub record IsSpellable (q : Query) : Type 0 where
-  pub version : IsVersion q.version
-  pub input : IsWord q.version q.input
-  pub blocks : AreBlocks q.version 16 q.blocks
-  pub output : IsWord q.version q.output
+-- a page has a member at least, and their number is one of 64 bits
+abbrev pub IsPlace : Place → Type 0
+IsPlace (position l) = Unit {0}
+IsPlace (next l) = Unit {0}
+IsPlace (previous l) = Unit {0}
+IsPlace (page l n) = (0 < n) × (n < 2 ^ 63)
+
+-- a label at least
+abbrev pub HasLabel : Word → Type 0
+HasLabel [] = ⊥
+HasLabel (l ∷ labels) = Unit {0}
+
+abbrev pub IsOrder : Order → Type 0
+IsOrder o = HasLabel o.word × Every IsPlace o.places
+
+-- ORDERs are in version 3 alone
+abbrev pub AreOrders : ℕ → List Order → Type 0
+AreOrders version [] = Unit {0}
+AreOrders version (o ∷ orders) = (version ≡ 3) × Every IsOrder (o ∷ orders)
+
+pub record IsSpellable (q : Ordered) : Type 0 where
+  pub version : IsVersion q.query.version
+  pub input : IsWord q.query.version q.query.input
+  pub orders : AreOrders q.query.version q.orders
+  pub blocks : AreBlocks q.query.version 16 q.query.blocks
+  pub output : IsWord q.query.version q.query.output

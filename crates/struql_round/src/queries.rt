@@ -2,19 +2,18 @@
 
 ghost use Rattle.std.specs.Prelude.{ℕ, List};
 ghost use Rattle.sd_lex.specs.declared.token.Token.{Token};
-ghost use Rattle.query_spec.specs.Query.{Query};
-ghost use Rattle.struql_ast.specs.Written.{Query as Written};
+ghost use Rattle.struql_orders.specs.Ordered.{Ordered, OrderedQuery};
 ghost use Rattle.struql_round.specs.Again.{QueryIsReadAgain, ParsedIsReadAgain};
 
 /// The text of a query that the grammar can spell, whichever its version, splits into tokens that spell the query, places
 /// aside.
 pub fn queries_are_read_again()
-    ensures { (q : Query) (limit : ℕ) → QueryIsReadAgain limit q }
+    ensures { (q : Ordered) (limit : ℕ) → QueryIsReadAgain limit q }
 {}
 
 /// What is printed of any query that was read is read again as that query, places aside: each one is a query that the
 /// grammar can spell.
 pub fn parsed_queries_are_read_again()
-    ensures { (limit : ℕ) (bytes : List ℕ) (tokens : List Token) (w : Written)
+    ensures { (limit : ℕ) (bytes : List ℕ) (tokens : List Token) (w : OrderedQuery)
         → ParsedIsReadAgain limit bytes tokens w }
 {}

@@ -151,6 +151,76 @@ const ROWS: &[Row] = &[
     },
 ];
 
+// Texts without entries. One that has bytes and no item is no bibliography.
+const WITHOUT_ENTRIES: &[Row] = &[
+    Row {
+        text: b"",
+        rules: BibRules::LENIENT,
+        ..ROW
+    },
+    // Items that state nothing.
+    Row {
+        text: b"IEEEabrv.bib\n@STRING{IEEE_J_AES = \"{IEEE} Trans. Aerosp. Electron. Syst.\"}\n",
+        rules: BibRules::LENIENT,
+        ..ROW
+    },
+    Row {
+        text: b"% Encoding: UTF-8\n\n@Comment{jabref-meta: databaseType:bibtex;}\n",
+        rules: BibRules::LENIENT,
+        ..ROW
+    },
+    Row {
+        text: b"@preamble{\"\\newcommand{\\x}{y}\"}",
+        rules: BibRules::LENIENT,
+        ..ROW
+    },
+    // A letter, a line that is a comment, `@comment` without the byte that opens it, an end of a line, and a byte order mark.
+    Row {
+        text: b"Dear all,\nwrite to me@x.org.\n",
+        rules: BibRules::LENIENT,
+        refusal: Some(BibRefusal::Expected(0)),
+        ..ROW
+    },
+    Row {
+        text: b"% @misc{k}\n",
+        rules: BibRules::LENIENT,
+        refusal: Some(BibRefusal::Expected(0)),
+        ..ROW
+    },
+    Row {
+        text: b"@comment\n",
+        refusal: Some(BibRefusal::Expected(0)),
+        ..ROW
+    },
+    Row {
+        text: b"\n",
+        refusal: Some(BibRefusal::Expected(0)),
+        ..ROW
+    },
+    Row {
+        text: b"\xef\xbb\xbf",
+        refusal: Some(BibRefusal::Expected(0)),
+        ..ROW
+    },
+    // An item that isn't whole is refused at its place.
+    Row {
+        text: b"Dear all,\n@misc{k",
+        refusal: Some(BibRefusal::Expected(17)),
+        ..ROW
+    },
+    // Strictly a text without items states nothing.
+    Row {
+        text: b"Dear all,\nwrite to me.\n",
+        rules: BibRules::STRICT,
+        ..ROW
+    },
+    Row {
+        text: b"\xef\xbb\xbf",
+        rules: BibRules::STRICT,
+        ..ROW
+    },
+];
+
 // Texts as people read them, and people in their order.
 const READABLE: &[Row] = &[
     Row {
@@ -283,6 +353,14 @@ const WHOLE: &[Row] = &[
         graph: b"object \"k\" in \"b\", \"misc\" {\n  \"bibtex\" \"@ misc (% a@b\\n k, n = {)} # \\\"x\\\")\"\n  \"n\" \")x\"\n}\n",
         ..ROW
     },
+    // Within and behind an `@comment`, which is its word alone.
+    Row {
+        text: b"@comment{@misc{k}} @Comment(x) @misc{l, n = 1}",
+        rules: BibRules::LENIENT,
+        graph: b"object \"k\" in \"b\", \"misc\" {\n  \"bibtex\" \"@misc{k}\"\n}\n\
+            object \"l\" in \"b\", \"misc\" {\n  \"bibtex\" \"@misc{l, n = 1}\"\n  \"n\" 1\n}\n",
+        ..ROW
+    },
     // What is before a fault is told of with what was read up to it.
     Row {
         text: b"@a{k, crossref = {l}} @a{l, n = 1} @a{m, o}",
@@ -314,6 +392,14 @@ fn check_row(alloc: Global, row: &Row) -> Result<(), Fail> {
 #[test]
 fn each_text_is_read_as_its_row_says(rt: HostRuntime) -> Result<(), Fail> {
     for row in ROWS {
+        check_row(rt.alloc(), row)?;
+    }
+    Ok(())
+}
+
+#[test]
+fn texts_without_entries_are_read_as_their_rows_say(rt: HostRuntime) -> Result<(), Fail> {
+    for row in WITHOUT_ENTRIES {
         check_row(rt.alloc(), row)?;
     }
     Ok(())

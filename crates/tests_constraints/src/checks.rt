@@ -7,7 +7,7 @@ use std::test::Fail;
 /// The checked query that the text spells, with its blocks.
 pub fn scoped_query(alloc: Global, text: &[u8]) -> Result<ScopedQuery, Fail> {
     let query = read_query(alloc, text, 65_536)?;
-    Ok(ScopedQuery::of(alloc, query)?)
+    Ok(ScopedQuery::of(alloc, query.checked)?)
 }
 
 /// Fails with the reason where a row doesn't hold.

@@ -120,7 +120,7 @@ fn refuted(alloc: Global, row: &Counterexample) -> Result<Option<Graph>, Fail> {
     let [constraint] = constraints.as_slice() else {
         return Err(Fail::new(row.constraint));
     };
-    let mut trial = SiteOracle::of(&query);
+    let mut trial = SiteOracle::of(&query, &[]);
     Ok(first_broken(alloc, &query, constraint, &mut trial)?)
 }
 
@@ -154,7 +154,7 @@ fn is_broken(alloc: Global, row: &VerdictRow, data: &[u8]) -> Result<bool, Fail>
     let mut builder = GraphBuilder::new(alloc, PROGRAM_LIMITS);
     read_ddl(alloc, data, 65_536, &mut builder)?;
     let graph = builder.finish(alloc)?;
-    let mut trial = SiteOracle::of(&query);
+    let mut trial = SiteOracle::of(&query, &[]);
     let met = trial.met(alloc, graph, constraint)?;
     Ok(!met)
 }

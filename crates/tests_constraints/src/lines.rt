@@ -16,7 +16,7 @@ const PAPERS: &[u8] = b"INPUT Bib { CREATE RootPage() } \
 pub fn told(alloc: Global, query: &[u8], constraints: &[u8]) -> Result<Verdicts, Fail> {
     let query = scoped_query(alloc, query)?;
     let constraints = parse_constraints(alloc, constraints, 65_536, &query)?;
-    let mut trial = SiteOracle::of(&query);
+    let mut trial = SiteOracle::of(&query, &[]);
     Ok(verdicts_of(alloc, &query, &constraints, &mut trial)?)
 }
 

@@ -122,8 +122,8 @@ fn are_names(found: &[Str], wanted: &[&[u8]]) -> bool {
 fn functions_have_their_footprints(rt: HostRuntime) -> Result<(), Fail> {
     let alloc = rt.alloc();
     for row in FOOTPRINTS {
-        let checked = read_query(alloc, row.query, 65_536)?;
-        let blocks = scopes(alloc, &checked)?;
+        let query = read_query(alloc, row.query, 65_536)?;
+        let blocks = scopes(alloc, &query.checked)?;
         let templates = read_templates(alloc, row.templates, 65_536)?;
         let function = Str::new(alloc, row.function)?;
         let parts = footprint(alloc, &blocks, &templates, &function)?;

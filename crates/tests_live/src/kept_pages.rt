@@ -8,6 +8,7 @@ use crate::mirrored::Mirror;
 use crate::numbers::{Numbers, one_of};
 use bindings::StoreAsker;
 use edit_reader::read_edit;
+use made_data::{Made, Making};
 use page_cache::Cached;
 use page_spec::Outcome;
 use query_blocks::QueryBlocks;
@@ -201,11 +202,18 @@ fn check_kept<V: Versions + Drop>(
 // So many edits by the generator from a seed. Neither all pages nor none are found kept.
 fn check_run(alloc: Global, source: PageSource, seed: u64, count: u64) -> Result<(), Fail> {
     let query = read_query(alloc, QUERY, 65_536)?;
-    let blocks = scopes(alloc, &query)?;
+    let blocks = scopes(alloc, &query.checked)?;
     let templates = read_templates(alloc, TEMPLATES, 65_536)?;
     let terms = all_terms(alloc)?;
-    let graph = first_data(alloc)?.builder(alloc)?.finish(alloc)?;
-    let pages = SitePages::of(alloc, graph, &None, &blocks, &templates, source)?;
+    let made = Made {
+        graph: first_data(alloc)?.builder(alloc)?.finish(alloc)?,
+        stated: None,
+    };
+    let making = Making {
+        first: None,
+        orders: Vec::new(alloc),
+    };
+    let pages = SitePages::of(alloc, made, &making, &blocks, &templates, source)?;
     let site = Site {
         blocks: &blocks,
         templates: &templates,

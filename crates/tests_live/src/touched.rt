@@ -128,8 +128,8 @@ fn edits_touch_what_rests_on_them(rt: HostRuntime) -> Result<(), Fail> {
     let alloc = rt.alloc();
     let function = Str::new(alloc, b"F")?;
     for row in TOUCHES {
-        let checked = read_query(alloc, row.query, 65_536)?;
-        let blocks = scopes(alloc, &checked)?;
+        let query = read_query(alloc, row.query, 65_536)?;
+        let blocks = scopes(alloc, &query.checked)?;
         let templates = read_templates(alloc, row.templates, 65_536)?;
         let edit = read_edit(alloc, row.edit, 65_536)?;
         let touches = touches_pages(alloc, &blocks, &templates, &function, &edit)?;

@@ -27,6 +27,7 @@ mod lints;
 #[cfg(test)]
 mod logs;
 #[cfg(test)]
+mod orders;
 mod pages;
 #[cfg(test)]
 mod refusing;

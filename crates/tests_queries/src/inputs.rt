@@ -58,7 +58,8 @@ pub fn asker_of(alloc: Global, builder: GraphBuilder) -> Result<StoreAsker<Index
 /// The query that the text spells.
 pub fn query_of(alloc: Global, query: &str) -> Result<Checked, Fail> {
     let text = quoted(alloc, query)?;
-    Ok(read_query(alloc, text.as_bytes(), LIMIT)?)
+    let read = read_query(alloc, text.as_bytes(), LIMIT)?;
+    Ok(read.checked)
 }
 
 /// The blocks of the query that the text spells.

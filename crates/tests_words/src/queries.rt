@@ -207,7 +207,7 @@ fn has_its_places(query: &Query) -> bool {
 
 #[test]
 fn a_query_is_read_with_its_places(rt: HostRuntime) -> Result<(), Fail> {
-    let query = parse(rt.alloc(), PLACES.as_bytes(), 58)?;
+    let query = parse(rt.alloc(), PLACES.as_bytes(), 58)?.query;
     check(has_its_places(&query), PLACES.as_bytes())
 }
 

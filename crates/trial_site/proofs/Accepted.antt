@@ -1,5 +1,5 @@
 -- A text that spells a query without faults is never refused.
-use Rattle.std.proofs.Common.{◌≡◌, ℕ, List, subst, Ok, Err}
+use Rattle.std.proofs.Common.{◌≡◌, ℕ, List, ap, subst, Ok, Err}
 use Rattle.sd_lex.specs.declared.token.Token.{Token}
 use Rattle.sd_lex.specs.declared.refusal.LexRefusal.{LexRefusal}
 use Rattle.sd_lex.specs.declared.refusal.LexRefusal.TheVariants as lexer
@@ -10,6 +10,7 @@ use Rattle.token_reader.specs.Gives.{IsReal}
 use Rattle.token_reader.proofs.Tokens.{one_token_list}
 use Rattle.token_reader.proofs.TextFaults.{text_spelled_no_fault, text_spelled_no_past}
 use Rattle.struql_ast.specs.Written as written
+use Rattle.struql_orders.specs.Ordered.{OrderedQuery}
 use Rattle.token_reader.specs.declared.refusal.TextRefusal.TheVariants as text
 use Rattle.struql_parse.specs.declared.refusal.ParseRefusal.TheVariants as parse
 use Rattle.struql_parse.specs.Blocks.{query_within, query_spelled}
@@ -24,10 +25,10 @@ use Rattle.struql_check.specs.Checked.{ReportsFirst}
 use Rattle.query_reader.specs.declared.QueryRefusal.{QueryRefusal}
 use Rattle.query_reader.specs.declared.QueryRefusal.TheVariants.{NotSpelled, NotChecked}
 use Rattle.query_reader.specs.Reads.{Spells, IsRefused}
-use Rattle.trial_site.specs.Accepted.{IsOutOfMemory}
+use Rattle.trial_site.specs.Accepted.{IsOutOfMemory, unordered}
 
 module _ (limit : ℕ) (bytes : List ℕ) (tokens : List Token) (query : written.Query)
-    (lexed : IsTextOrFault limit bytes (Ok tokens)) (spelled : query_within tokens query)
+    (lexed : IsTextOrFault limit bytes (Ok tokens)) (spelled : query_within tokens (unordered query))
     (faultless : IsFaultless query) where
   no_fault : (e : LexRefusal) → IsTextOrFault limit bytes (Err e) → ⊥
   no_fault e h = let one : Ok tokens ≡ Err e = one_token_list limit bytes (Ok tokens) (Err e) lexed h in cc
@@ -39,25 +40,26 @@ module _ (limit : ℕ) (bytes : List ℕ) (tokens : List Token) (query : written
   not_stuck : (others rest : List Token) → IsTextOrFault limit bytes (Ok others)
       → FirstFault IsReal query_within query_spelled others rest → ⊥
   not_stuck others rest h f =
-      text_spelled_no_fault query_within query_spelled is_within limit bytes tokens lexed query rest spelled
+      text_spelled_no_fault query_within query_spelled is_within limit bytes tokens lexed (unordered query) rest spelled
       (subst (λ x. FirstFault IsReal query_within query_spelled x rest) (same_tokens others h) f)
 
   not_past : (others rest : List Token) → IsTextOrFault limit bytes (Ok others)
       → FirstPast IsReal query_within query_spelled others rest → ⊥
   not_past others rest h f =
-      text_spelled_no_past query_within query_spelled is_within limit bytes tokens lexed query rest spelled
+      text_spelled_no_past query_within query_spelled is_within limit bytes tokens lexed (unordered query) rest spelled
       (subst (λ x. FirstPast IsReal query_within query_spelled x rest) (same_tokens others h) f)
 
-  same_query : (other : written.Query) → Spells limit bytes other → other ≡ query
+  pub same_query : (other : OrderedQuery) → Spells limit bytes other → other ≡ unordered query
   same_query other (others, h, spells) =
-      one_value IsReal query_within query_spelled read_query query_part.reads tokens other query
+      one_value IsReal query_within query_spelled read_query query_part.reads tokens other (unordered query)
       (subst (λ x. query_within x other) (same_tokens others h) spells) spelled
 
-  not_faulty : (other : written.Query) → Spells limit bytes other → (check : Check) (at : ℕ) → Faulty other check at → ⊥
+  not_faulty : (other : OrderedQuery) → Spells limit bytes other → (check : Check) (at : ℕ) → Faulty other.query check at → ⊥
   not_faulty other spells check at fault =
-      faultless check at (subst (λ q. Faulty q check at) (same_query other spells) fault)
+      faultless check at
+      (subst (λ q. Faulty q check at) (ap (λ (q : OrderedQuery). q.query) (same_query other spells)) fault)
 
-  not_reported : (other : written.Query) → Spells limit bytes other → (e : CheckRefusal) → ReportsFirst other e
+  not_reported : (other : OrderedQuery) → Spells limit bytes other → (e : CheckRefusal) → ReportsFirst other.query e
       → IsOutOfMemory (NotChecked e)
   not_reported other spells (check.TooManyPositions p) h = absurd (not_faulty other spells h.0 h.1 h.2.is)
   not_reported other spells (check.Unbound p) h = absurd (not_faulty other spells h.0 h.1 h.2.is)

@@ -1,5 +1,5 @@
 -- The query of a trial is read, by evaluation.
-use Rattle.std.proofs.Common.{◌≡◌, true, List, [], length, refl, arith, Option, Some, None}
+use Rattle.std.proofs.Common.{◌≡◌, true, List, [], length, refl, ap, arith, Option, Some, None}
 use Rattle.std.proofs.Common.{Ok}
 use Rattle.sd_lex.specs.declared.token.Token.{Token}
 use Rattle.sd_lex.specs.Lexing.{IsTextOrFault}
@@ -20,15 +20,18 @@ use Rattle.struql_text.specs.Reading.{read_arc_step, read_path_step, read_step, 
 use Rattle.struql_text.specs.Reading.{read_behind, read_plain, read_negated, read_condition}
 use Rattle.struql_text.specs.Reading.{read_called_target, read_by_sum, read_applied_target, read_named_end}
 use Rattle.struql_text.specs.Terminals.{keyword_of, test_of, text_test_of, is_sum}
+use Rattle.struql_orders.specs.Ordered.{OrderedQuery}
+use Rattle.struql_orders.specs.Reading.{read_orders}
 use Rattle.struql_parse.proofs.Whole.{is_spelled}
 use Rattle.struql_check.specs.Faults.{IsFaultless, is_test, is_index}
 use Rattle.command_spec.specs.Limits.{text_limit}
 use Rattle.trial_spec.specs.Texts.{query_text}
-use Rattle.trial_site.specs.Accepted.{IsQueryText}
+use Rattle.trial_site.specs.Accepted.{IsQueryText, unordered}
 use Rattle.trial_site.proofs.Lexed.{lexed, with_token, by_token, by_gap, lexed_sound}
 use Rattle.trial_site.proofs.Faultless.{each, plays, few, small, from_page, collects, sound_block, sound_term}
 use Rattle.trial_site.proofs.Faultless.{sound_query, sound_faultless}
-use Rattle.trial_site.proofs.Accepted.{never_refused}
+use Rattle.query_reader.specs.Reads.{Spells}
+use Rattle.trial_site.proofs.Accepted.{never_refused, same_query}
 
 -- the tokens of the text, as the lexer reads them
 unfoldable tokens_or : Option (List Token) → List Token
@@ -44,8 +47,8 @@ unfolding tokens
 is_lexed = refl
 
 -- the query that they spell, as the parser reads it
-unfoldable query_or : Outcome Token Query → Query
-query_or (Read query rest) = query
+unfoldable query_or : Outcome Token OrderedQuery → Query
+query_or (Read query rest) = query.query
 query_or (Stuck rest) = record { version = 0; input = []; blocks = no_blocks; output = [] }
 query_or (Past rest) = record { version = 0; input = []; blocks = no_blocks; output = [] }
 
@@ -58,10 +61,10 @@ unfolding tokens query_or iterate keyword_of test_of text_test_of is_sum read_ca
     read_term read_made read_named_target read_source read_operand_target read_target read_link read_collect
     read_call read_comparison read_membership read_arc_step read_path_step read_step read_path
     read_second read_call_end read_pair_end read_pair_or_call read_name_call read_relation read_behind
-    read_plain read_negated read_condition
+    read_plain read_negated read_condition read_orders
 query = query_or (read_query tokens)
 
-is_read : read_query tokens ≡ Read query []
+is_read : read_query tokens ≡ Read (unordered query) []
 unfolding query
 is_read = refl
 
@@ -75,8 +78,8 @@ is_text =
     let size : length query_text ≡ 342 = refl in
     (omega (arith, size), lexed_sound 1000 0 query_text tokens is_lexed)
 
-is_within : query_within tokens query
-is_within = is_spelled tokens query is_read
+is_within : query_within tokens (unordered query)
+is_within = is_spelled tokens (unordered query) is_read
 
 no_fault : IsFaultless query
 no_fault = sound_faultless query is_sound
@@ -88,3 +91,8 @@ query_accepted = record {
   faultless = no_fault;
   never_refused = never_refused text_limit query_text tokens query is_text is_within no_fault;
 }
+
+-- what the text spells has no ORDERs
+pub none_spelled : (other : OrderedQuery) → Spells text_limit query_text other → other.orders ≡ []
+none_spelled other h =
+    ap (λ (q : OrderedQuery). q.orders) (same_query text_limit query_text tokens query is_text is_within no_fault other h)

@@ -6,6 +6,7 @@ ghost use Rattle.tmpl.specs.Reading.{file_of};
 ghost use Rattle.template_reader.specs.Faults.{IsTemplatesAnswer};
 ghost use Rattle.command_spec.specs.Limits.{text_limit};
 ghost use Rattle.trial_spec.specs.Texts.{query_text, templates_text};
+ghost use Rattle.trial_site.specs.Accepted.{plain_of};
 
 use command_spec::TEXT_LIMIT;
 use query_reader::{QueryRefusal, read_query};
@@ -33,10 +34,10 @@ const TEMPLATES: &[u8] = b"\
 
 /// The query of a trial. Its text is the program's own and is accepted, so out of memory is the only error.
 pub fn made_query(alloc: Global) -> Result<Checked, NoMemory>
-    ensures { IfOk result (λ query. IsAccepted text_limit query_text query) }
+    ensures { IfOk result (λ query. IsAccepted text_limit query_text (plain_of query)) }
 {
     match read_query(alloc, QUERY, TEXT_LIMIT) {
-        Ok(query) => Ok(query),
+        Ok(query) => Ok(query.checked),
         Err(QueryRefusal::NotSpelled(refusal)) => {
             if refusal.is_out_of_memory() {
                 return Err(NoMemory);

@@ -24,3 +24,8 @@ returns-clause-traced g c =
     reads_done (input_paths (data_paths command.sources command.over) command.query command.templates) _ _ _ inputs result _ _ c.in_ok-inputs.ensures.traced
     (page_is_read (inputs_of inputs) command.address result c.page_at.ensures)
     (λ map h. then_next (InputsEnd map command.sources command.over command.query command.templates) (λ s. PageTaken s command.address) (inputs_of inputs) result h c.page_at.ensures)
+
+pub returns-in_err-inputs-clause-ends : goal.returns-in_err-inputs-clause-ends
+returns-in_err-inputs-clause-ends g c = λ map told.
+    let p = err_from_is_err_and c.from_residual.result c.from_residual.ensures.1 in
+    rw (p.1, p.2) (inl (c.in_err-inputs.ensures.ends map told))

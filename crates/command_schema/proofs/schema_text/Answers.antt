@@ -1,5 +1,6 @@
 use Rattle.std.proofs.Common.{◌∷◌, [], inl}
 use Rattle.std.proofs.lemmas.Result.{err_from_is_err_and}
+use Rattle.query_reader.specs.Reads.{read_value}
 use Rattle.site_inputs.specs.Sites.{QueryEnds}
 use Rattle.site_inputs.proofs.Graphs.{then_next}
 use Rattle.site_inputs.proofs.ReadLemmas.{reads_fault, reads_done, reads_no_more}
@@ -9,7 +10,7 @@ use Rattle.command_schema.proofs.schema_text.Goals as goal
 
 pub returns-clause-cause : goal.returns-clause-cause
 returns-clause-cause g c =
-    taken_cause c.args.command.now.dot c.in_ok-query.query _ _ _ c.text_of.result c.in_ok-query.ensures.cause.later c.text_of.ensures
+    taken_cause c.args.command.now.dot c.in_ok-query.query.checked _ _ _ c.text_of.result c.in_ok-query.ensures.cause.later c.text_of.ensures
 
 pub returns-in_err-query-clause-traced : goal.returns-in_err-query-clause-traced
 returns-in_err-query-clause-traced g c =
@@ -20,8 +21,8 @@ returns-in_err-query-clause-traced g c =
 pub returns-clause-traced : goal.returns-clause-traced
 returns-clause-traced g c =
     let command = c.args.command.now in
-    let query = c.in_ok-query.query in
+    let query = read_value c.in_ok-query.query in
     let result = c.text_of.result in
-    reads_done (command.query ∷ []) _ _ _ query result _ _ c.in_ok-query.ensures.traced
-    (reads_no_more (SchemaTaken command.dot query) (λ path taken. taken) result c.text_of.ensures)
-    (λ map h. then_next (QueryEnds map command.query) (SchemaTaken command.dot) query result h c.text_of.ensures)
+    reads_done (command.query ∷ []) _ _ _ c.in_ok-query.query result _ _ c.in_ok-query.ensures.traced
+    (reads_no_more (SchemaTaken command.dot query.query) (λ path taken. taken) result c.text_of.ensures)
+    (λ map h. then_next (QueryEnds map command.query) (λ q. SchemaTaken command.dot q.query) query result h c.text_of.ensures)

@@ -21,7 +21,7 @@ returns-clause-serves g c =
     let is_root : c.in_ok-root.root ≡ root_function c.args.inputs.query =
     c.in_ok-root.ensures ∙ ap (λ s. root_of_bodies s.bodies) c.in_ok-scopes.ensures.scope in
     let start = first_data (inputs_of c.args.inputs) in
-    let is_start = c.in_ok-pages.ensures.state ∙ ap (λ (scope : Scope). record { first = start.first; pages = record { graph = start.pages.graph; scope = scope; templates = start.pages.templates } }) c.in_ok-scopes.ensures.scope in
+    let is_start = c.in_ok-pages.ensures.state ∙ ap (λ (scope : Scope). record { making = start.making; stated = start.stated; pages = record { graph = start.pages.graph; scope = scope; templates = start.pages.templates } }) c.in_ok-scopes.ensures.scope in
     let first : Origin = record { root = c.in_ok-root.root; hosts = c.in_ok-hosts.hosts } in
     let kept : CacheRoom = record { pages = c.from.result; bytes = limits.cache_bytes } in
     subst (λ (r : Option (List ℕ)). Serves (record { root = r; hosts = limits.hosts }) current_site current_templates (data_texts the_rules) start limits.requests limits.turns (room_of limits) old new served) is_root
@@ -41,7 +41,7 @@ returns-clause-steps g c =
     let is_root : c.in_ok-root.root ≡ root_function c.args.inputs.query =
     c.in_ok-root.ensures ∙ ap (λ s. root_of_bodies s.bodies) c.in_ok-scopes.ensures.scope in
     let start = first_data (inputs_of c.args.inputs) in
-    let is_start = c.in_ok-pages.ensures.state ∙ ap (λ (scope : Scope). record { first = start.first; pages = record { graph = start.pages.graph; scope = scope; templates = start.pages.templates } }) c.in_ok-scopes.ensures.scope in
+    let is_start = c.in_ok-pages.ensures.state ∙ ap (λ (scope : Scope). record { making = start.making; stated = start.stated; pages = record { graph = start.pages.graph; scope = scope; templates = start.pages.templates } }) c.in_ok-scopes.ensures.scope in
     let first : Origin = record { root = c.in_ok-root.root; hosts = c.in_ok-hosts.hosts } in
     let kept : CacheRoom = record { pages = c.from.result; bytes = limits.cache_bytes } in
     subst (λ (r : Option (List ℕ)). HappensInSteps (record { root = r; hosts = limits.hosts }) current_site current_templates (data_texts the_rules) start limits.requests limits.turns (room_of limits) old new served before after) is_root

@@ -6,6 +6,7 @@ use sd_value::{Datum, NoMemory, Str, Value};
 use std::alloc::Global;
 use std::test::Fail;
 use struql_ast::{Block, Condition, Link, LinkLabel, Operand, PathStep, Query, SkolemTerm, Target};
+use struql_orders::OrderedQuery;
 use struql_print::{print, print_condition, print_link};
 
 const NOWHERE: Span = Span { start: 0, end: 0 };
@@ -59,12 +60,16 @@ fn some_block(alloc: Global) -> Result<Block, NoMemory> {
     })
 }
 
-fn some_query(alloc: Global) -> Result<Query, NoMemory> {
-    Ok(Query {
+fn some_query(alloc: Global) -> Result<OrderedQuery, NoMemory> {
+    let query = Query {
         version: 2,
         input: Str::new(alloc, b"D")?,
         blocks: vec![in alloc; some_block(alloc)?]?,
         output: Str::new(alloc, b"S")?,
+    };
+    Ok(OrderedQuery {
+        orders: Vec::new(alloc),
+        query,
     })
 }
 

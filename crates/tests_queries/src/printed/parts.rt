@@ -428,7 +428,7 @@ const PARTS: &[PartRow] = &[
 fn check_part<R: AllocGlobal + Abort>(rt: &R, part: &str, row: &PartRow) -> Result<(), Fail> {
     let alloc = rt.alloc();
     let text = query_with(alloc, row.head, part)?;
-    let query = parse(alloc, text.as_bytes(), LIMIT)?;
+    let query = parse(alloc, text.as_bytes(), LIMIT)?.query;
     let mut out = Vec::new(alloc);
     if let Some(block) = query.blocks.first() {
         if let Some(condition) = block.conditions.first() {

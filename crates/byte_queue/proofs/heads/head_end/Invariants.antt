@@ -1,5 +1,8 @@
-use Rattle.std.proofs.Common.{◌≡◌, ◌<◌, true}
+use Rattle.std.proofs.Common.{◌≤◌, ◌-◌, length}
 use Rattle.byte_queue.proofs.heads.head_end.Given as goal
 
-abbrev pub invariant-loop-at : goal.invariant-loop-at
-invariant-loop-at l = l.blank ≡ true → 0 < l.at
+abbrev pub invariant-loop-length : goal.invariant-loop-length
+invariant-loop-length l = l.at ≤ length l.bytes
+
+abbrev pub decreases-loop-length : goal.decreases-loop-length
+decreases-loop-length l = length l.bytes - l.at

@@ -9,20 +9,21 @@ use Rattle.site_inputs.proofs.ReadLemmas.{reads_then, reads_stop, reads_fault, r
 use Rattle.site_inputs.proofs.Causes.{cause_within}
 use Rattle.command_spec.specs.Inputs.{check_paths}
 use Rattle.command_check.specs.CheckEnds.{VerdictsTaken}
+use Rattle.command_check.specs.Ordered.{scoped_value}
 use Rattle.command_check.specs.ConstraintFile.{ConstraintsEnd}
 use Rattle.command_check.proofs.Answers.{all_checked, verdicts_cause}
 use Rattle.command_check.proofs.all.check_all.Goals as goal
 
 pub returns-clause-ends : goal.returns-clause-ends
 returns-clause-ends g c = λ map told.
-    all_checked map c.args.query.now c.args.constraints.now c.in_ok-query.query c.in_ok-constraints.constraints.items c.verdicts_on.result
+    all_checked map c.args.query.now c.args.constraints.now (scoped_value c.in_ok-query.query) c.in_ok-constraints.constraints.items c.verdicts_on.result
     (c.in_ok-query.ensures.ends map told)
     (c.in_ok-constraints.ensures.ends map (c.in_ok-query.ensures.same ∙ told))
-    (subst (λ (cs : List Constraint). VerdictsTaken c.in_ok-query.query cs c.verdicts_on.result) c.as_slice.ensures.value c.verdicts_on.ensures)
+    (subst (λ (cs : List Constraint). VerdictsTaken (scoped_value c.in_ok-query.query) cs c.verdicts_on.result) c.as_slice.ensures.value c.verdicts_on.ensures)
 
 pub returns-clause-cause : goal.returns-clause-cause
 returns-clause-cause g c =
-    verdicts_cause c.in_ok-query.query c.as_slice.result.now _ _ _ c.verdicts_on.result
+    verdicts_cause (scoped_value c.in_ok-query.query) c.as_slice.result.now _ _ _ c.verdicts_on.result
     (none_fell c.in_ok-query.ensures.cause.later c.in_ok-constraints.ensures.cause.later) c.verdicts_on.ensures
 
 pub returns-in_err-query-clause-cause : goal.returns-in_err-query-clause-cause
@@ -49,11 +50,11 @@ pub returns-in_err-constraints-clause-traced : goal.returns-in_err-constraints-c
 returns-in_err-constraints-clause-traced g c =
     let p = err_from_is_err_and c.from_residual-in_err-constraints.result c.from_residual-in_err-constraints.ensures.1 in
     let path = c.args.constraints.now in
-    let query = c.in_ok-query.query in
+    let query = scoped_value c.in_ok-query.query in
     let fault = c.in_err-constraints.field-0.0 in
     rw (p.1, p.2)
     (reads_then (c.args.query.now ∷ []) (path ∷ []) _ _ _ _ _ query (Err fault) _ _ _ c.in_ok-query.ensures.traced
-    (reads_fault _ _ (path ∷ []) _ _ _ fault _ (λ map. ConstraintsEnd query map path (Err fault)) c.in_err-constraints.ensures.traced (λ map h. h))
+    (reads_fault _ _ (path ∷ []) _ _ _ fault _ (λ map. ConstraintsEnd query.query map path (Err fault)) c.in_err-constraints.ensures.traced (λ map h. h))
     c.in_ok-query.ensures.same
     (λ map f n. inr (record { value = query; first = f; next = inl n })))
 
@@ -61,13 +62,13 @@ pub returns-clause-traced : goal.returns-clause-traced
 returns-clause-traced g c =
     let query_path = c.args.query.now in
     let path = c.args.constraints.now in
-    let query = c.in_ok-query.query in
+    let query = scoped_value c.in_ok-query.query in
     let constraints = c.in_ok-constraints.constraints in
     let result = c.verdicts_on.result in
     let taken = subst (λ (cs : List Constraint). VerdictsTaken query cs result) c.as_slice.ensures.value c.verdicts_on.ensures in
     reads_done (check_paths query_path path) _ _ _ constraints result _ _
     (reads_then (query_path ∷ []) (path ∷ []) _ _ _ _ _ query (Ok constraints) _ _
-    (λ map. QueryEnds map query_path (Ok query) × ConstraintsEnd query map path (Ok constraints.items))
+    (λ map. QueryEnds map query_path (Ok query) × ConstraintsEnd query.query map path (Ok constraints.items))
     c.in_ok-query.ensures.traced c.in_ok-constraints.ensures.traced c.in_ok-query.ensures.same (λ map f n. (f, n)))
     (reads_no_more (VerdictsTaken query constraints.items) (λ path taken. taken) result taken)
     (λ map h. all_checked map query_path path query constraints.items result h.0 h.1 taken)

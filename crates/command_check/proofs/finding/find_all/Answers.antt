@@ -1,4 +1,5 @@
-use Rattle.std.proofs.Common.{arith, ◌∙◌}
+use Rattle.std.proofs.Common.{arith, ◌∙◌, List, subst}
+use Rattle.order_spec.specs.Order.{Order}
 use Rattle.site_spec.specs.Site.{scope_of}
 use Rattle.constraint_prover.specs.Verdicts.{IsVerdict, HoldsOverAll}
 use Rattle.command_check.specs.Told.{IsCheckAnswer, HoldsOfSites}
@@ -27,14 +28,17 @@ pub loop-i-preserved : goal.loop-i-preserved
 loop-i-preserved g c = record {
   own = c.in_ok-find.ensures.own;
   scope = c.in_ok-find.ensures.scope ∙ c.loop-i.invariant.scope;
-  exact = found_more (IsCheckAnswer (scope_of c.args.query.now)) c.args.constraints.now c.loop-i.i c.index-constraints-i.result c.loop-i.found.items c.push.new.self.items c.in_ok-find.field-0
-      c.loop-i-test.true c.index-constraints-i.is c.in_ok-push.ensures.items c.loop-i.invariant.exact c.in_ok-find.ensures.exact;
-  holds = found_more (HoldsOfSites (scope_of c.args.query.now)) c.args.constraints.now c.loop-i.i c.index-constraints-i.result c.loop-i.found.items c.push.new.self.items c.in_ok-find.field-0
-      c.loop-i-test.true c.index-constraints-i.is c.in_ok-push.ensures.items c.loop-i.invariant.holds c.in_ok-find.ensures.holds;
+  orders = c.in_ok-find.ensures.orders ∙ c.loop-i.invariant.orders;
+  exact = found_more (IsCheckAnswer (g.T.Oracle.orders c.args.trial.now) (scope_of c.args.query.now)) c.args.constraints.now c.loop-i.i c.index-constraints-i.result c.loop-i.found.items c.push.new.self.items c.in_ok-find.field-0
+      c.loop-i-test.true c.index-constraints-i.is c.in_ok-push.ensures.items c.loop-i.invariant.exact
+      (subst (λ (orders : List Order). IsCheckAnswer orders (scope_of c.args.query.now) c.index-constraints-i.result (found_in c.in_ok-find.field-0)) c.loop-i.invariant.orders c.in_ok-find.ensures.exact);
+  holds = found_more (HoldsOfSites (g.T.Oracle.orders c.args.trial.now) (scope_of c.args.query.now)) c.args.constraints.now c.loop-i.i c.index-constraints-i.result c.loop-i.found.items c.push.new.self.items c.in_ok-find.field-0
+      c.loop-i-test.true c.index-constraints-i.is c.in_ok-push.ensures.items c.loop-i.invariant.holds
+      (subst (λ (orders : List Order). HoldsOfSites orders (scope_of c.args.query.now) c.index-constraints-i.result (found_in c.in_ok-find.field-0)) c.loop-i.invariant.orders c.in_ok-find.ensures.holds);
 }
 
 pub returns-clause-exact : goal.returns-clause-exact
-returns-clause-exact g c = found_all (IsCheckAnswer (scope_of c.args.query.now)) c.args.constraints.now c.loop-i.i (map found_in c.loop-i.found.items) c.loop-i-test.false c.loop-i.invariant.exact
+returns-clause-exact g c = found_all (IsCheckAnswer (g.T.Oracle.orders c.args.trial.now) (scope_of c.args.query.now)) c.args.constraints.now c.loop-i.i (map found_in c.loop-i.found.items) c.loop-i-test.false c.loop-i.invariant.exact
 
 pub returns-clause-holds : goal.returns-clause-holds
-returns-clause-holds g c = found_all (HoldsOfSites (scope_of c.args.query.now)) c.args.constraints.now c.loop-i.i (map found_in c.loop-i.found.items) c.loop-i-test.false c.loop-i.invariant.holds
+returns-clause-holds g c = found_all (HoldsOfSites (g.T.Oracle.orders c.args.trial.now) (scope_of c.args.query.now)) c.args.constraints.now c.loop-i.i (map found_in c.loop-i.found.items) c.loop-i-test.false c.loop-i.invariant.holds

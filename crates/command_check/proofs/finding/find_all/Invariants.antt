@@ -10,6 +10,7 @@ abbrev pub invariant-loop-i : goal.invariant-loop-i
 invariant-loop-i g l = record {
   own : g.T.Oracle.Own l.trial;
   scope : g.T.Oracle.scope l.trial ≡ g.T.Oracle.scope l.initial.trial;
-  exact : AllZip (IsCheckAnswer (scope_of l.query)) (take l.i l.constraints) (map found_in l.found.items);
-  holds : AllZip (HoldsOfSites (scope_of l.query)) (take l.i l.constraints) (map found_in l.found.items);
+  orders : g.T.Oracle.orders l.trial ≡ g.T.Oracle.orders l.initial.trial;
+  exact : AllZip (IsCheckAnswer (g.T.Oracle.orders l.initial.trial) (scope_of l.query)) (take l.i l.constraints) (map found_in l.found.items);
+  holds : AllZip (HoldsOfSites (g.T.Oracle.orders l.initial.trial) (scope_of l.query)) (take l.i l.constraints) (map found_in l.found.items);
 }

@@ -24,7 +24,7 @@ pub lines_of-requires : goal.lines_of-requires
 lines_of-requires g c =
     ap length c.as_slice-findings.ensures.value
     ∙ (sym (length-map c.in_ok-all_findings.all_findings.items found_in)
-    ∙ zip_length (IsCheckAnswer (scope_of c.args.query.now)) c.args.constraints.now (map found_in c.in_ok-all_findings.all_findings.items) c.in_ok-all_findings.ensures.exact)
+    ∙ zip_length (IsCheckAnswer (g.T.Oracle.orders c.args.trial.now) (scope_of c.args.query.now)) c.args.constraints.now (map found_in c.in_ok-all_findings.all_findings.items) c.in_ok-all_findings.ensures.exact)
 
 pub returns-clause-told : goal.returns-clause-told
 returns-clause-told g c = record {

@@ -16,8 +16,8 @@ pub returns : goal.returns
 returns c = λ bytes template_bytes asks are.
     let trees : SiteTrees = record { query = asks.0; items = c.args.text.now.items.items } in
     let graphs = c.store.ensures ∙ c.in_ok-without_rows.ensures.graph ∙ c.of-asker.ensures.store ∙ c.in_ok-store.ensures in
-    whole_report c.args.graph c.args.query.now.checked (file_of c.args.text.now.templates) (texts_of c.args.query_path.now bytes c.args.templates_path.now template_bytes) trees
+    whole_report c.args.over.graph c.args.over.query (file_of c.args.text.now.templates) (texts_of c.args.query_path.now bytes c.args.templates_path.now template_bytes) trees
     _ _ c.report.result (record { query = asks.1; items = are })
-    (findings_as _ c.args.graph _ _ (file_of c.args.text.now.templates) _ _ _ _ _ _ graphs c.in_ok-scopes.ensures.scope refl asks.2 c.deref-2.ensures.value c.in_ok-found.ensures.query)
-    (findings_as _ c.args.graph _ _ (file_of c.args.text.now.templates) _ _ _ _ _ _ graphs c.in_ok-scopes.ensures.scope refl refl c.deref-3.ensures.value c.in_ok-found.ensures.templates)
+    (findings_as _ c.args.over.graph _ _ (file_of c.args.text.now.templates) _ _ _ _ _ _ graphs c.in_ok-scopes.ensures.scope refl asks.2 c.deref-2.ensures.value c.in_ok-found.ensures.query)
+    (findings_as _ c.args.over.graph _ _ (file_of c.args.text.now.templates) _ _ _ _ _ _ graphs c.in_ok-scopes.ensures.scope refl refl c.deref-3.ensures.value c.in_ok-found.ensures.templates)
     c.report.ensures.text c.report.ensures.clean

@@ -1,4 +1,4 @@
-use Rattle.std.proofs.Common.{ap, below_more, sym, ◌∙◌, arith, get_or, length, ℕ, ◌+◌, ◌≢◌, ◌<◌, ◌≤◌, ◌≡◌}
+use Rattle.std.proofs.Common.{ap, below_more, sym, ◌∙◌, arith, get_or, length, ℕ, ◌+◌, ◌≢◌, ◌<◌}
 use Rattle.page_spec.specs.declared.Outcome.TheVariants.{Missing}
 use Rattle.http_spec.specs.Replies.{no_memory_bytes}
 use Rattle.trial_spec.specs.declared.Counts.{Counts}

@@ -1,4 +1,4 @@
-use Rattle.std.proofs.Common.{◌≡◌, ◌+◌, ◌∷◌, [], codes, ap, ◌∙◌, arith}
+use Rattle.std.proofs.Common.{◌∷◌, [], codes, ap, ◌∙◌, arith}
 use Rattle.std.proofs.lemmas.Int.{ints}
 use Rattle.sd_value.specs.declared.Datum.TheVariants.{Int}
 use Rattle.command_trial.proofs.Lists.{pushed_year}

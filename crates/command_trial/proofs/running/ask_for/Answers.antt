@@ -1,4 +1,4 @@
-use Rattle.std.proofs.Common.{◌≡◌, ◌<◌, List, All, length, ap, subst, ◌∙◌, arith}
+use Rattle.std.proofs.Common.{◌≡◌, ◌<◌, All, length, ap, subst, ◌∙◌, arith}
 use Rattle.site_spec.specs.Root.{root_function}
 use Rattle.mem_wire.specs.WireInMemory.{WireInMemory, entry_of, HasEntry}
 use Rattle.site_inputs.specs.Values.{inputs_of}

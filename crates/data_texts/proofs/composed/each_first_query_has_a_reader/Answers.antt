@@ -1,5 +1,0 @@
-use Rattle.data_texts.proofs.Readers.{the_readers}
-use Rattle.data_texts.proofs.composed.each_first_query_has_a_reader.Goals as goal
-
-pub returns : goal.returns
-returns c = the_readers
